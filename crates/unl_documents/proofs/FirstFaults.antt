@@ -1,4 +1,4 @@
--- A reading fails with the first of the faults of its keys.
+-- Reading a document fails with the first fault of its keys.
 use Rattle.std.proofs.Common.{◌≡◌, List, [], ◌∷◌, Bool, true, false, cond, Ok, Err, refl, sym, ap, ◌∙◌}
 use Rattle.std.specs.Prelude.{codes}
 use Rattle.serde_json.specs.Data.{Data}
@@ -148,7 +148,7 @@ feature_first value =
     (defaulted [] (objects 100 dependency_of) field.Dependencies value)
     (λ a b c d e f g h i j. record { name = a; project = b; kind = c; description = d; enabled = e; stale = f; impression = g; strategies = h; variants = i; dependencies = j })
 
--- Two lists in order, each of them sorted, and then what is made of both.
+-- Two lists are read and sorted, and `h` continues with the two results: the fault is the first in this order.
 lists_first : {A B C D E F : Type 0} (a : Reading A) (f : A → Reading B) (c : Reading C) (g : C → Reading D) (make : B → D → E) (h : E → Reading F)
     (others : List BadDocument) → ((e : E) → fault_of (h e) ≡ first others)
     → fault_of ((a >>= λ (x : A). f x >>= λ (y : B). c >>= λ (z : C). g z >>= λ (w : D). Ok (make y w)) >>= h) ≡ first (before (a >>= f) (before (c >>= g) others))
@@ -170,7 +170,7 @@ lists_first {A} {B} {C} {D} {E} {F} a f c g make h others each = on_first a
     on_first (Ok x) = on_second (f x)
     on_first (Err e) = refl
 
--- A state, and then what is made of it.
+-- A state is read, and `h` continues with the state: the fault is the first in this order.
 state_then : {T : Type 0} (value : Data) (h : State → Reading T) (others : List BadDocument)
     → ((s : State) → fault_of (h s) ≡ first others) → fault_of (state_of value >>= h) ≡ first (faults_of_lists value others)
 unfolding state_of
@@ -194,7 +194,7 @@ feed_first value =
     state_then value (λ state. meta >>= λ m. Ok (record { epoch = m.epoch; state = state; number = m.number })) (before meta [])
     (λ state. keys_1 meta (λ m. record { epoch = m.epoch; state = state; number = m.number }))
 
--- As above, for a whole document.
+-- As above, for a document that isn't nested in another document.
 pub document_first : {T : Type 0} (reads : Data → Reading T) (faults : Data → List BadDocument) (value : Data)
     → fault_of (reads value) ≡ first (faults value) → fault_of (document reads value) ≡ first (faults_of_document faults value)
 document_first reads faults value same = decided (is_object value)

@@ -1,4 +1,4 @@
--- Sorting lists by key.
+-- The function `in_order` of the specification sorts a list by key or finds the least duplicate key.
 use Rattle.std.proofs.Common.{◌≡◌, ℕ, true, false, List, [], ◌∷◌, map, Option, Some, None, Ok, Err, Ordering, is_lt, nat_cmp, refl, sym, ap, subst, ◌∙◌}
 use Rattle.std.specs.Prelude.{◌≢◌, IfOk, IfErr, option_map, if◌then◌else◌}
 use Rattle.std.specs.Cmp.{IsStrictWeakOrder}

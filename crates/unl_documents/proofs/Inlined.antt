@@ -1,4 +1,4 @@
--- States with inlined segments.
+-- Inlining segments: it changes nothing where no strategy refers to a segment, and keeps a state valid.
 use Rattle.std.proofs.Common.{◌≡◌, ℕ, ◌≤◌, ◌++◌, Bool, true, false, cond, List, [], ◌∷◌, length, map, Option, Some, None, inl, inr, refl, ap, sym, ◌∙◌, arith}
 use Rattle.std.specs.Prelude.{All, flat_map, nat_lt, ◌==◌}
 use Rattle.std.specs.List.{find, list_all}

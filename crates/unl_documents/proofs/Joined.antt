@@ -43,13 +43,13 @@ flat_map_joined f (list ∷ lists) = flat_map-append f list (joined lists) ∙ a
 pub joined-push : {T : Type 0} (lists : List (List T)) (list : List T) → joined (lists ++ list ∷ []) ≡ joined lists ++ list
 joined-push lists list = flat_map-append (λ l. l) lists (list ∷ []) ∙ ap (λ l. joined lists ++ l) (append-nil list)
 
--- Appending one more list, made of the first of the remaining items.
+-- Moving the first of the remaining items into one more list keeps all items.
 pub part_more : {T : Type 0} (lists made : List (List T)) (list part left rest total : List T) → made ≡ lists ++ list ∷ [] → list ≡ part → rest ≡ part ++ left → joined lists ++ rest ≡ total → joined made ++ left ≡ total
 part_more lists made list part left rest total is same parts so_far =
     ap (λ l. joined l ++ left) is ∙ ap (λ l. l ++ left) (joined-push lists list) ∙ append_assoc (joined lists) list left
     ∙ ap (λ l. joined lists ++ l) (ap (λ l. l ++ left) same ∙ sym parts) ∙ so_far
 
--- Appending one more list, which isn't empty.
+-- After a list that isn't empty is appended, still no list is empty.
 pub full_more : {T : Type 0} (lists made : List (List T)) (list part : List T) → made ≡ lists ++ list ∷ [] → list ≡ part → 1 ≤ length part → NoneIsEmpty lists → NoneIsEmpty made
 full_more lists made list part is same inside full = rw is (All-push (λ l. 1 ≤ length l) lists list full (rw same inside))
 

@@ -1,4 +1,4 @@
--- The results of reading and the documents that values represent.
+-- How the result of reading a value follows from the document that the value represents and from its first fault.
 use Rattle.std.proofs.Common.{◌≡◌, ℕ, true, false, List, Option, Some, None, Ok, Err, refl, sym, ap, ◌∙◌}
 use Rattle.std.specs.Prelude.{◌↔◌, if◌then◌else◌}
 use Rattle.std.specs.Str.{is_utf8}
@@ -28,7 +28,7 @@ exactly reads Reads sound one value d fault same = (
       a.1 ∙ ap Ok (one value a.0 d represents p.0),
 )
 
--- A reading fails with a fault if and only if that is the fault of the value.
+-- A reading fails with `e` if and only if `e` is the fault of the value.
 pub faulty : {T : Type 0} (r : Reading T) (e : BadDocument) (fault : Option BadDocument) → fault_of r ≡ fault → (r ≡ Err e) ↔ (fault ≡ Some e)
 faulty (Ok x) e fault same = (λ h. absurd cc, λ h. absurd cc)
 faulty (Err d) e fault same = (λ h. cc, λ h. cc)

@@ -37,7 +37,7 @@ has_or_at default Is f value found x here is = rw here is
 meta_represented : (head : FeedHead) → IsObject ReadsMeta (meta_data head) (record { epoch = head.epoch; number = Some head.number })
 meta_represented head = object_is meta_of ReadsMeta field.Meta meta_is (meta_data head) (record { epoch = head.epoch; number = Some head.number }) (meta_back head)
 
--- This holds for any number of features and segments.
+-- The value of a feed represents the feed, for any number of features and segments.
 pub feed_represented : (head : FeedHead) (s : State) → IsValidState s → ReadsFeed (feed_data head s) (record { epoch = head.epoch; state = s; number = Some head.number })
 unfolding feed_data meta_data meta_with at
 feed_represented head s valid =

@@ -1,6 +1,5 @@
 -- The tokens that are written for JSON values.
 use Rattle.std.proofs.Common.{◌≡◌, ℕ, List, [], ◌∷◌, ◌++◌, map, Option, Some, None, option_map, Ok, refl, sym, ap, ◌∙◌, append_assoc}
-use Rattle.std.specs.List.{cons_option}
 use Rattle.json.specs.Print.{print}
 use Rattle.json.specs.Token.{Token, begin_object, end_object, begin_array, end_array, key, string as string_token}
 use Rattle.json.specs.Tree.{items_tokens, members_tokens}
@@ -24,27 +23,22 @@ use Rattle.unl_documents.specs.declared.variant.Variant.{Variant}
 use Rattle.unl_documents.specs.Key.{key_of}
 use Rattle.unl_documents.specs.Operators.{spelling}
 use Rattle.unl_documents.specs.Parameters.{AreRising}
-use Rattle.unl_documents.specs.Tokens.{tokens_of, all_tokens, tokens_if, tokens_at, tokens_at_some, pair_tokens, Wrote}
+use Rattle.unl_documents.specs.Tokens.{tokens_of, all_tokens, tokens_at, tokens_at_some, pair_tokens, Wrote}
 use Rattle.unl_documents.specs.Writing.{with, with_some, count, list_data, unless_zero, override_data, payload_data, variant_data, dependency_data, constraint_data, segment_data, parameters_data, strategy_data, feature_data, meta_with, meta_data, query_data, feed_data}
 use Rattle.unl_documents.proofs.RoundTrip.{in_order, with_pairs-in_order}
 
--- Writing one token.
+-- Writing one token appends this token.
 pub one : {E : Type 0} {x : Unit {0}} {t : Token} {old new : Written} → Writes {E = E} (Ok x) old new t → Wrote (t ∷ []) old new
 one w = record { before = w.room.0; tokens = w.ok }
 
--- Writing some tokens, then others.
+-- Writing the tokens `xs` and then the tokens `ys` appends `xs ++ ys`.
 pub then : {xs ys : List Token} {old between new : Written} → Wrote xs old between → Wrote ys between new → Wrote (xs ++ ys) old new
 then {xs} {ys} {old} {between} {new} first second =
     record { before = second.before ∙ first.before; tokens = second.tokens ∙ ap (λ ts. ts ++ ys) first.tokens ∙ append_assoc old.tokens xs ys }
 
--- Writing the same tokens, spelled differently.
+-- `Wrote` holds for any list that is equal to the tokens written.
 pub spelled : {xs ys : List Token} {old new : Written} → xs ≡ ys → Wrote ys old new → Wrote xs old new
 spelled {xs} {ys} {old} {new} same wrote = record { before = wrote.before; tokens = wrote.tokens ∙ ap (λ ts. old.tokens ++ ts) (sym same) }
-
--- Adds the tokens of an optional value.
-pub found_more : (prefix : List Token) (o : Option Data) (ds : List Data) → (prefix ++ tokens_if o) ++ all_tokens ds ≡ prefix ++ all_tokens (cons_option o ds)
-found_more prefix None ds = append_assoc prefix [] (all_tokens ds)
-found_more prefix (Some d) ds = append_assoc prefix (tokens_of d) (all_tokens ds)
 
 pub items_tokens_of : (ds : List Data) → items_tokens (items_outline (items_of ds)) ≡ all_tokens ds ++ end_array ∷ []
 items_tokens_of [] = refl
@@ -60,7 +54,7 @@ text_of d old new before none wrote =
     let tokens : new.tokens ≡ tokens_of d = wrote.tokens ∙ ap (λ ts. ts ++ tokens_of d) none in
     ap (λ bytes. bytes ++ print new.tokens) (wrote.before ∙ before) ∙ ap print tokens ∙ print-outline d
 
--- ---- the objects, their keys in byte order, with and without the optional ones
+-- ---- the tokens of each object: its keys in byte order, with and without the optional keys
 
 pub override_tokens : (o : Override)
     → tokens_of (override_data o)

@@ -11,7 +11,7 @@ use Rattle.unl_documents.specs.Reads.{IsText, IsTruth, IsWhole, IsTextOrWhole, I
 use Rattle.unl_documents.specs.States.{no_meta}
 use Rattle.unl_documents.proofs.OneOrder.{one_sorting}
 
--- A value represents at most one thing.
+-- `Is` relates each JSON value to at most one `T`.
 abbrev pub One : {T : Type 0} → (Data → T → Type 0) → Type 0
 One {T} Is = (value : Data) (a b : T) → Is value a → Is value b → a ≡ b
 

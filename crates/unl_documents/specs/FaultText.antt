@@ -1,4 +1,4 @@
--- The text of a document's faults.
+-- The text that reports a `BadDocument`.
 use Rattle.std.specs.Prelude.{ℕ, List, [], ◌++◌, codes, decimal}
 use Rattle.serde_json.specs.Data.{string}
 use Rattle.serde_json.specs.Written.{compact_text}
@@ -7,8 +7,8 @@ use Rattle.unl_documents.specs.declared.fault.BadDocument.TheVariants.{NotJson, 
 use Rattle.unl_documents.specs.declared.fault.BadDocument.TheVariants.{Memory}
 use Rattle.unl_documents.specs.Key.{key_of}
 
--- The text of a fault: its name, the key, and what was found there, which is a number or a name as a JSON string. Out
--- of memory isn't a fault of a document, and its text is empty.
+-- The text of a fault: the name of the variant, the key, and the number or the JSON string of the name, separated by
+-- spaces. The text of `Memory` is empty.
 unfoldable pub fault_text : BadDocument → List ℕ
 fault_text NotJson = codes "NotJson"
 fault_text (Missing field) = codes "Missing " ++ key_of field

@@ -1,5 +1,5 @@
--- The faults of a value, listed by key in the order in which the keys are read. Each key has its own fault, whatever
--- the other keys have. The fault of the document is the first in the list.
+-- The faults of a JSON value that is read as a document, in the order in which the keys are read. The fault of a key
+-- doesn't depend on the other keys. Reading fails with the first fault of the list.
 use Rattle.std.specs.Prelude.{[], ◌∷◌, List, codes, true, false, Option, Some, None, Ok, Err, if◌then◌else◌}
 use Rattle.serde_json.specs.Data.{Data}
 use Rattle.unl_documents.specs.declared.fault.BadDocument.{BadDocument}
@@ -15,7 +15,7 @@ use Rattle.unl_documents.specs.Reading.{Reading, ◌>>=◌}
 use Rattle.unl_documents.specs.Sorting.{in_order}
 use Rattle.unl_documents.specs.States.{name_key, id_key, as_is, id_text, no_meta, meta_of}
 
--- The fault of a failed reading; `None` for one that succeeded.
+-- The fault of a reading that failed; `None` for a reading that succeeded.
 abbrev pub fault_of : {T : Type 0} → Reading T → Option BadDocument
 fault_of (Ok x) = None
 fault_of (Err e) = Some e
@@ -25,7 +25,7 @@ abbrev pub before : {T : Type 0} → Reading T → List BadDocument → List Bad
 before (Ok x) others = others
 before (Err e) others = e ∷ others
 
--- The first of a list of faults.
+-- The first fault of a list, or `None`.
 abbrev pub first : List BadDocument → Option BadDocument
 first [] = None
 first (e ∷ es) = Some e
@@ -107,8 +107,8 @@ faults_of_feature value =
     before (defaulted [] (objects 100 variant_of) field.Variants value) (
     before (defaulted [] (objects 100 dependency_of) field.Dependencies value) [])))))))))
 
--- The faults of a state's lists, followed by `others`. In each list, the faults of the items come before a duplicate
--- name or id.
+-- The faults of the two lists of a state, followed by `others`. A duplicate name or id is the fault of a list only if
+-- none of its items has a fault.
 abbrev pub faults_of_lists : Data → List BadDocument → List BadDocument
 faults_of_lists value others =
     before (defaulted [] (objects 10000 feature_of) field.Features value >>= in_order name_key as_is field.Name) (

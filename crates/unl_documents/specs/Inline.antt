@@ -1,4 +1,5 @@
--- Inlining segments into the strategies that refer to them, for readers that don't know segments.
+-- Inlining segments: strategies get copies of the constraints of the segments that they refer to. This is for clients
+-- that don't support segments.
 use Rattle.std.specs.Prelude.{ℕ, List, [], ◌∷◌, ◌++◌, map, length, flat_map, codes, false, Option, Some, None, Result, Ok, Err, nat_lt}
 use Rattle.std.specs.Prelude.{◌==◌}
 use Rattle.std.specs.List.{find}
@@ -16,20 +17,20 @@ use Rattle.unl_documents.specs.declared.strategy.Strategy.{Strategy}
 abbrev pub segment_with : ℕ → List Segment → Option Segment
 segment_with id segments = find (λ s. s.id == id) segments
 
--- The constraint that holds for nobody: `userId` IN no values.
+-- A constraint that no context meets: `userId` IN an empty list.
 abbrev pub holds_for_nobody : Constraint
 holds_for_nobody = record { field = codes "userId"; operator = In; values = []; value = None; caseless = false; inverted = false }
 
--- The constraints inlined for an id: those of its segment, or the one that holds for nobody if there is no such
--- segment.
+-- The constraints inlined for a segment id: those of the segment, or `holds_for_nobody` if there is no segment with
+-- this id.
 unfoldable pub constraints_for : List Segment → ℕ → List Constraint
 constraints_for segments id = option_map_or (λ s. s.constraints) (segment_with id segments) (holds_for_nobody ∷ [])
 
--- The strategy's own constraints, followed by those for each of its segment ids in order.
+-- The strategy's own constraints, followed by the constraints inlined for each of its segment ids in order.
 unfoldable pub all_constraints : List Segment → Strategy → List Constraint
 all_constraints segments s = s.constraints ++ flat_map (constraints_for segments) s.segments
 
--- The strategy with the constraints of its segments as its own.
+-- The strategy with the constraints of its segments added to its own, and without segment ids.
 unfoldable pub inlined_strategy : List Segment → Strategy → Strategy
 inlined_strategy segments s = record {
   name = s.name;
@@ -58,19 +59,20 @@ inlined_feature segments f = record {
 unfoldable pub inlined : State → State
 inlined state = record { features = map (inlined_feature state.segments) state.features; segments = [] }
 
--- The number of constraints that each strategy would have.
+-- The number of constraints that each strategy would have after inlining.
 abbrev pub counts : List Segment → List Strategy → List ℕ
 counts segments strategies = map (λ s. length (all_constraints segments s)) strategies
 
--- The constraint count of the first strategy that would have more than 100, in the order of features and strategies.
+-- The number of constraints of the first strategy that would have more than 100, in the order of features and
+-- strategies.
 unfoldable pub first_excess : State → Option ℕ
 first_excess state = find (nat_lt 100) (flat_map (λ f. counts state.segments f.strategies) state.features)
 
--- The state, or `TooMany` if there is an excess.
+-- The state, or `TooMany` if `first_excess` found a strategy with too many constraints.
 abbrev pub unless_excess : Option ℕ → State → Result State InlineRefusal
 unless_excess None state = Ok state
 unless_excess (Some count) state = Err (TooMany count)
 
--- The inlined state, or the first excess.
+-- The state with its segments inlined, or `TooMany` if a strategy would have more than 100 constraints.
 unfoldable pub inlining_of : State → Result State InlineRefusal
 inlining_of state = unless_excess (first_excess state) (inlined state)

@@ -1,4 +1,5 @@
--- Which document a JSON value represents: key by key, in no order, and ignoring limits.
+-- Which document a JSON value represents. The definitions here compare key by key. They ignore limits and the order in
+-- which keys are read.
 use Rattle.std.specs.Prelude.{◌≡◌, ℕ, List, [], ◌∷◌, codes, Bool, true, false, Option, None, Some, MatchOption}
 use Rattle.serde_json.specs.Data.{Data, unsigned, null, boolean, number, string, array, object, Items, no_items, item, Members}
 use Rattle.serde_json.specs.Data.{no_members, member}
@@ -51,23 +52,23 @@ IsTextOrWhole (object inside) bytes = ⊥
 abbrev pub IsOperator : Data → Operator → Type 0
 IsOperator value op = (name : List ℕ) × IsText value name × (op ≡ operator_of name)
 
--- The items represent these, one for one.
+-- The JSON items represent the items of the list, one for one; `Is` says what a single item represents.
 abbrev pub AreEach : {T : Type 0} → (Data → T → Type 0) → Items → List T → Type 0
 AreEach Is no_items [] = Unit {0}
 AreEach Is no_items (x ∷ xs) = ⊥
 AreEach Is (item value values) [] = ⊥
 AreEach Is (item value values) (x ∷ xs) = Is value x × AreEach Is values xs
 
--- The value is a list whose items represent these.
+-- The value is a JSON array whose items represent the items of `xs`.
 abbrev pub IsList : {T : Type 0} → (Data → T → Type 0) → Data → List T → Type 0
 IsList Is value xs = (items : Items) × (value ≡ array items) × AreEach Is items xs
 
--- The value is an object that represents this.
+-- The value is a JSON object that represents `x`.
 abbrev pub IsObject : {T : Type 0} → (Data → T → Type 0) → Data → T → Type 0
 IsObject Reads value x = (is_object value ≡ true) × Reads value x
 
--- There is one pair for each member whose value isn't null, with the member's key and the text that its value
--- represents.
+-- The members represent the pairs: there is one pair for each member whose value isn't null, with the member's key and
+-- the text of its value.
 abbrev pub ArePairs : Members → List Pair → Type 0
 ArePairs no_members pairs = pairs ≡ []
 ArePairs (member name value inside) pairs =
@@ -80,23 +81,23 @@ IsParameters value pairs = (inside : Members) × (value ≡ object inside) × Ar
 
 -- ---- keys
 
--- The key has a value that represents this.
+-- The key has a value that represents `x`.
 abbrev pub Has : {T : Type 0} → (Data → T → Type 0) → Field → Data → T → Type 0
 Has Is field value x = MatchOption (at field value) ⊥ (λ found. Is found x)
 
--- The key has a value that represents this, or it is absent and this is the default.
+-- The key has a value that represents `x`; or it is absent or null, and `x` is the default.
 abbrev pub HasOr : {T : Type 0} → T → (Data → T → Type 0) → Field → Data → T → Type 0
 HasOr default Is field value x = MatchOption (at field value) (x ≡ default) (λ found. Is found x)
 
--- The key has a value that represents this, or it is absent and this is `None`.
+-- The key has a value, and `o` is `Some` with what it represents; or the key is absent or null, and `o` is `None`.
 abbrev pub MayHave : {T : Type 0} → (Data → T → Type 0) → Field → Data → Option T → Type 0
 MayHave {T} Is field value o = MatchOption (at field value) (o ≡ None) (λ found. (x : T) × (o ≡ Some x) × Is found x)
 
--- The key has a list whose items represent these, or it is absent and this list is empty.
+-- The key has a JSON array whose items represent the items of the list; or it is absent or null, and the list is empty.
 abbrev pub HasList : {T : Type 0} → (Data → T → Type 0) → Field → Data → List T → Type 0
 HasList Is = HasOr [] (IsList Is)
 
--- The key has a list of objects that represent these, which are sorted by key here.
+-- The key has a JSON array of objects, in any order, that represent the items of `ys`; `ys` is sorted by `by`.
 abbrev pub HasSorted : {T : Type 0} → (T → List ℕ) → (Data → T → Type 0) → Field → Data → List T → Type 0
 HasSorted {T} by Reads field value ys = (xs : List T) × HasList (IsObject Reads) field value xs × IsSorting by xs ys
 
@@ -166,7 +167,7 @@ pub record ReadsState (value : Data) (s : State) : Type 0 where
   pub features : HasSorted name_key ReadsFeature key.Features value s.features
   pub segments : HasSorted id_key ReadsSegment key.Segments value s.segments
 
--- The value represents an epoch, which is 0 if it is absent, and an optional number.
+-- The value represents the `meta` object of a feed: an epoch, which is 0 if it is absent, and an optional number.
 pub record ReadsMeta (value : Data) (m : Meta) : Type 0 where
   pub epoch : HasOr 0 IsWhole key.Epoch value m.epoch
   pub number : MayHave IsWhole key.RevisionId value m.number

@@ -15,15 +15,15 @@ without_trailing_space text = take (length text - suffix_len is_ascii_whitespace
 unfoldable pub trimmed : List ℕ → List ℕ
 trimmed text = without_trailing_space (without_leading_space text)
 
--- The texts between the occurrences of `mark`: one more than there are occurrences.
+-- The texts before, between and after the occurrences of `mark`.
 abbrev pub parts : ℕ → List ℕ → List (List ℕ)
 parts mark text = slice_split (λ byte. byte == mark) text
 
--- The text isn't empty.
+-- Whether the text isn't empty.
 abbrev pub has_bytes : List ℕ → Bool
 has_bytes text = not (length text == 0)
 
--- The texts trimmed, without those that are then empty.
+-- The texts after trimming, without the empty ones.
 abbrev pub items_among : List (List ℕ) → List (List ℕ)
 items_among texts = filter has_bytes (map trimmed texts)
 
@@ -31,6 +31,6 @@ items_among texts = filter has_bytes (map trimmed texts)
 unfoldable pub comma_items : List ℕ → List (List ℕ)
 comma_items text = items_among (parts 44 text)
 
--- A name has 1 to 255 bytes.
+-- Whether the text is a name: it has 1 to 255 bytes.
 abbrev pub is_name : List ℕ → Bool
 is_name text = nat_lt 0 (length text) && nat_le (length text) 255

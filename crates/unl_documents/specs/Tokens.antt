@@ -1,4 +1,4 @@
--- The tokens of JSON text.
+-- The tokens of the JSON text of values and object members.
 use Rattle.std.specs.Prelude.{◌≡◌, List, [], ◌∷◌, ◌++◌, Option, Some, None, flat_map}
 use Rattle.json.specs.Token.{Token, key, string}
 use Rattle.json.specs.Tree.{json_tokens}
@@ -17,7 +17,7 @@ tokens_of d = json_tokens (outline d)
 abbrev pub all_tokens : List Data → List Token
 all_tokens ds = flat_map tokens_of ds
 
--- The tokens of an optional value; none if it is absent.
+-- The tokens of an optional value; no tokens for `None`.
 abbrev pub tokens_if : Option Data → List Token
 tokens_if None = []
 tokens_if (Some d) = tokens_of d
@@ -26,7 +26,7 @@ tokens_if (Some d) = tokens_of d
 abbrev pub tokens_at : Field → Data → List Token
 tokens_at field d = key (key_of field) ∷ tokens_of d
 
--- The tokens of a key and its optional value; none if it is absent.
+-- The tokens of a key and its optional value; no tokens for `None`.
 abbrev pub tokens_at_some : Field → Option Data → List Token
 tokens_at_some field None = []
 tokens_at_some field (Some d) = tokens_at field d
@@ -35,7 +35,7 @@ tokens_at_some field (Some d) = tokens_at field d
 abbrev pub pair_tokens : List Pair → List Token
 pair_tokens pairs = flat_map (λ p. key p.key ∷ string p.value ∷ []) pairs
 
--- The tokens `ts` were appended to those written before.
+-- A writer went from `old` to `new` by appending the tokens `ts`.
 pub record Wrote (ts : List Token) (old new : Written) : Type 0 where
   pub before : new.before ≡ old.before
   pub tokens : new.tokens ≡ old.tokens ++ ts

@@ -1,4 +1,4 @@
-//! Long lists that are cheap to copy: a copy shares all chunks of items with its original.
+//! `ChunkedList`: a long list that is cheap to copy. A copy shares all chunks of items with its original.
 ghost use Rattle.std.specs.Prelude.{◌≡◌, ◌==◌, ◌+◌, ◌-◌, ◌<◌, ◌≤◌, [], ◌∷◌, ◌++◌, IfOk, IfSome, OnOk, OnErr, All, Some};
 ghost use Rattle.std.specs.Prelude.{length, option_map, remove, slice_get, take, drop};
 ghost use Rattle.unl_documents.specs.Chunks.{joined, NoneIsEmpty};
@@ -16,9 +16,10 @@ const MOST: usize = 128;
 /// A chunk: a list of items. The chunk and each of its items are reference-counted.
 pub type Chunk<T> = Shared<List<Shared<T>>>;
 
-/// A list of reference-counted items, stored in reference-counted chunks. Contracts see it as the list of the items.
+/// A list of reference-counted items, stored in reference-counted chunks. In a contract, a
+/// `ChunkedList<T>` is the list of its items.
 ///
-/// Chunks built in this module have 1 to 128 items.
+/// Chunks built in this module have 1 to 128 items. [`ChunkedList::from_chunks`] also accepts longer chunks.
 #[derive(Drop)]
 pub struct ChunkedList<T> {
     chunks: List<Chunk<T>>,
@@ -36,7 +37,7 @@ impl<T> Model for ChunkedList<T> {
 }
 
 impl<T: Drop> ChunkedList<T> {
-    /// An empty list, without allocating.
+    /// Returns an empty list, without allocating.
     pub fn new(alloc: Global) -> ChunkedList<T>
         ensures { result ≡ [] }
     {
@@ -45,7 +46,7 @@ impl<T: Drop> ChunkedList<T> {
         }
     }
 
-    /// A list of `items`, split into chunks.
+    /// Returns a list of `items`, split into chunks. The only error is out of memory.
     pub fn of_list(alloc: Global, items: &List<Shared<T>>) -> Result<ChunkedList<T>, Memory>
         ensures { IfOk result (λ s. s ≡ items.now) }
     {
@@ -54,7 +55,7 @@ impl<T: Drop> ChunkedList<T> {
         })
     }
 
-    /// A list with these chunks, none of which may be empty.
+    /// Returns a list with these chunks, none of which may be empty.
     pub fn from_chunks(chunks: List<Chunk<T>>) -> ChunkedList<T>
         requires { NoneIsEmpty chunks }
         ensures { result ≡ joined chunks }
@@ -70,7 +71,7 @@ impl<T: Drop> ChunkedList<T> {
         self.chunks.as_slice()
     }
 
-    /// Returns the chunks that hold the items, in a list.
+    /// Returns the chunks that hold the items, as an owned list.
     pub fn into_chunks(self) -> List<Chunk<T>>
         ensures items { joined result ≡ self }
         ensures full { NoneIsEmpty result }
@@ -82,7 +83,8 @@ impl<T: Drop> ChunkedList<T> {
     ///
     /// # Errors
     ///
-    /// `Memory`: the number doesn't fit into a `usize`. This is possible, since the same chunk can occur more than once.
+    /// `Memory`: the number doesn't fit into a `usize`. This is possible, since the same chunk can occur more than
+    /// once.
     pub fn len(&self) -> Result<usize, Memory>
         ensures { IfOk result (λ count. count ≡ length self.now) }
     {
@@ -103,8 +105,8 @@ impl<T: Drop> ChunkedList<T> {
         item_at(self.chunks.as_slice(), place)
     }
 
-    /// Returns a list of these items followed by `items`. It shares all chunks, except that the last one is rebuilt if
-    /// it has room for `items`.
+    /// Returns a list of these items followed by `items`. The result shares the chunks of `self`. Only the last chunk
+    /// is replaced by a new one, if it has room for `items`. The only error is out of memory.
     pub fn append(&self, alloc: Global, items: &[Shared<T>]) -> Result<ChunkedList<T>, Memory>
         ensures { IfOk result (λ s. s ≡ self.now ++ items.now) }
     {
@@ -120,7 +122,8 @@ impl<T: Drop> TryClone for ChunkedList<T> {
     }
 }
 
-/// Removes and returns the chunk at index `place`: the chunk itself if it has no other owner, and otherwise a copy.
+/// Removes the chunk at index `place` and returns its items. They are copied only if something else also refers to the
+/// chunk. The only error is out of memory.
 pub fn take_chunk<T: Drop>(
     alloc: Global,
     chunks: &mut List<Chunk<T>>,
@@ -134,7 +137,7 @@ pub fn take_chunk<T: Drop>(
     owned(alloc, chunk)
 }
 
-/// Returns the items of a chunk: the chunk itself if it has no other owner, and otherwise a copy.
+/// Returns the items of a chunk. They are copied only if something else also refers to the chunk.
 fn owned<T: Drop>(alloc: Global, chunk: Chunk<T>) -> Result<List<Shared<T>>, Memory>
     ensures { IfOk result (λ list. list ≡ chunk) }
 {
@@ -144,8 +147,8 @@ fn owned<T: Drop>(alloc: Global, chunk: Chunk<T>) -> Result<List<Shared<T>>, Mem
     }
 }
 
-/// Returns the list of `chunks` with `chunk` inserted at index `place`. `chunk` is split if it has more than 128 items and
-/// left out if it is empty.
+/// Returns the list of `chunks` with `chunk` inserted at index `place`. `chunk` is split if it has more than 128 items
+/// and left out if it is empty. The only error is out of memory.
 pub fn with_chunk<T: Drop>(
     alloc: Global,
     mut chunks: List<Chunk<T>>,
@@ -163,7 +166,7 @@ pub fn with_chunk<T: Drop>(
     Ok(ChunkedList { chunks })
 }
 
-/// As [`with_chunk`], for a chunk that is always split.
+/// As [`with_chunk`], but always copies `chunk` into new chunks.
 fn with_cut<T: Drop>(
     alloc: Global,
     chunks: &[Chunk<T>],
@@ -195,7 +198,7 @@ fn from<T>(chunks: &[T], place: usize) -> &[T]
     &chunks[place..]
 }
 
-/// Appends another owner of each value.
+/// Appends another reference to each value of `more`.
 fn push_owners<T: Drop>(list: &mut List<Shared<T>>, more: &[Shared<T>]) -> Result<(), Memory>
     ensures { OnOk result (list.new ≡ list.old ++ more.now) }
 {
@@ -205,7 +208,7 @@ fn push_owners<T: Drop>(list: &mut List<Shared<T>>, more: &[Shared<T>]) -> Resul
     Ok(())
 }
 
-/// Appends a chunk, which may be empty or too long: an empty one is left out, a long one split.
+/// Appends `chunk` to `chunks`. It is split if it has more than 128 items and left out if it is empty.
 fn push_chunk<T: Drop>(
     alloc: Global,
     chunks: &mut List<Chunk<T>>,
@@ -237,7 +240,7 @@ fn push_cut<T: Drop>(
     Ok(())
 }
 
-/// Appends a chunk with another owner of each value. The list is unchanged on an error.
+/// Appends a chunk with another reference to each value of `part`. `chunks` is unchanged on an error.
 fn push_copy<T: Drop>(
     alloc: Global,
     chunks: &mut List<Chunk<T>>,
@@ -257,7 +260,7 @@ fn size_of_chunks(count: usize) -> usize
     count / chunks + 1
 }
 
-/// Returns a list with another owner of each value.
+/// Returns a list with another reference to each value.
 fn owners<T: Drop>(alloc: Global, values: &[Shared<T>]) -> Result<List<Shared<T>>, Memory>
     ensures { IfOk result (λ list. list ≡ values.now) }
 {
@@ -276,6 +279,7 @@ fn cut<T: Drop>(alloc: Global, items: &[Shared<T>]) -> Result<List<Chunk<T>>, Me
     Ok(chunks)
 }
 
+/// Implements [`ChunkedList::append`].
 fn appended<T: Drop>(
     alloc: Global,
     chunks: &[Chunk<T>],
@@ -296,7 +300,7 @@ fn appended<T: Drop>(
     }
 }
 
-/// Returns the list of `chunks`, followed by one more chunk.
+/// Returns the list of `chunks`, followed by the chunk `last`, which is split if it has more than 128 items.
 fn with_last<T: Drop>(
     alloc: Global,
     chunks: &[Chunk<T>],

@@ -14,8 +14,8 @@ use crate::shared::Shared;
 use crate::state::State;
 use crate::strategy::Strategy;
 
-/// Returns the constraint count of the first strategy that would have more than 100, without building anything. The
-/// error means that a count doesn't fit into 64 bits.
+/// Finds the first strategy that would have more than 100 constraints and returns its number of constraints. Builds no
+/// constraint lists. The only error, `Memory`, means that a count doesn't fit into 64 bits.
 #[tactic(auto, unfolding(crate::specs::Inline::first_excess))]
 pub(crate) fn first_excess(state: &State) -> Result<Option<u64>, Memory>
     ensures { IfOk result (λ found. found ≡ first_excess_of state.now) }
@@ -70,7 +70,8 @@ fn excess_among(
     Ok(None)
 }
 
-/// Returns the number of constraints that a strategy would have. The error means that it doesn't fit into 64 bits.
+/// Returns the number of constraints that a strategy would have. The only error, `Memory`, means that the number
+/// doesn't fit into 64 bits.
 #[tactic(auto, unfolding(crate::specs::Inline::all_constraints))]
 fn count_of(strategy: &Strategy, segments: &List<Shared<Segment>>) -> Result<u64, Memory>
     ensures { IfOk result (λ count. count ≡ length (all_constraints segments.now strategy.now)) }
@@ -88,7 +89,8 @@ fn sum_of(count: u64, more: u64) -> Result<u64, Memory>
     count.checked_add(more).ok_or(Memory)
 }
 
-/// Returns the number of constraints inlined for a segment id.
+/// Returns the number of constraints inlined for a segment id: those of the segment, or 1 if there is no segment with
+/// this id, because a constraint that never holds is inlined in its place.
 #[tactic(auto, unfolding(crate::specs::Inline::constraints_for))]
 fn count_for(segments: &List<Shared<Segment>>, id: u64) -> u64
     ensures { result ≡ length (constraints_for segments.now id) }

@@ -1,4 +1,4 @@
-//! The text of a document's faults.
+//! The text that reports a [`BadDocument`].
 ghost use Rattle.std.specs.Prelude.{◌≡◌, ◌++◌, IfOk, string_bytes, codes, decimal};
 ghost use Rattle.serde_json.specs.Data.{string};
 ghost use Rattle.serde_json.specs.Written.{compact_text};
@@ -12,8 +12,9 @@ use crate::text::Text;
 use serde_json::Value;
 use std::alloc::Global;
 
-/// Returns the text of a fault: its name, the key, and the number or the name that was found. Empty for `Memory`. The
-/// format is chosen by this project; the only error is out of memory.
+/// Returns the text of a fault. It begins with the name of the fault's variant. Every variant with a key adds the key.
+/// `TooLarge` then adds its number, and `DuplicateName` the duplicate name as a JSON string. The parts are separated by
+/// spaces. Returns an empty text for `Memory`. The format is chosen by this project. The only error is out of memory.
 #[tactic(auto, unfolding(crate::specs::FaultText::fault_text))]
 pub fn fault_text(alloc: Global, fault: &BadDocument) -> Result<String, Memory>
     ensures { IfOk result (λ s. string_bytes s ≡ fault_text fault.now) }
@@ -29,7 +30,7 @@ pub fn fault_text(alloc: Global, fault: &BadDocument) -> Result<String, Memory>
     }
 }
 
-/// Returns the name of a fault followed by the key.
+/// Returns `name`, which ends in a space, followed by the key.
 fn at_key(alloc: Global, name: &str, field: Field) -> Result<String, Memory>
     ensures { IfOk result (λ s. string_bytes s ≡ name.now ++ key_of field) }
 {

@@ -1,4 +1,5 @@
-//! Inlining segments into the strategies that refer to them, for readers that don't know segments.
+//! Inlining segments: strategies get copies of the constraints of the segments that they refer to. This is for clients
+//! that don't support segments.
 ghost use Rattle.std.specs.Prelude.{◌≡◌, ◌==◌, ◌++◌, IfOk, OnOk, length, map};
 ghost use Rattle.std.specs.List.{list_all};
 ghost use Rattle.unl_documents.specs.Inline.{all_constraints as constraints_of, constraints_for, holds_for_nobody as nobody_meets};
@@ -29,7 +30,7 @@ use thiserror::Error;
 /// Why the segments of a state couldn't be inlined.
 #[derive(Clone, Copy, Debug, Error)]
 pub enum InlineRefusal {
-    /// A strategy would have this many constraints, more than 100.
+    /// A strategy would have more than 100 constraints; the field is their number.
     #[error("a strategy would have {0} constraints")]
     TooMany(u64),
     /// Out of memory.
@@ -46,13 +47,13 @@ impl From<Memory> for InlineRefusal {
 }
 
 /// Returns the state with its segments inlined. Each strategy gets the constraints of its segments after its own, in
-/// the order in which it lists the segments, and then refers to no segments. An id that the state has no segment for
-/// becomes one constraint that holds for nobody: `userId` IN no values. So each feature is on for the same contexts as
-/// before.
+/// the order in which it lists the segments, and then refers to no segments. An id without a segment in the state
+/// becomes one constraint that holds for no context: `userId` IN an empty list. The theorem `inlining_changes_nothing`
+/// of `unl_dependencies` says that all evaluations stay the same.
 ///
 /// # Errors
-/// `TooMany(n)` if a strategy would have more than 100 constraints; `n` is the count of the first such strategy, in the
-/// order of features and strategies. `Memory` if memory runs out or a count doesn't fit into 64 bits.
+/// `TooMany(n)` if a strategy would have more than 100 constraints; `n` is the number of constraints of the first such
+/// strategy, in the order of features and strategies. `Memory` if memory runs out or a count doesn't fit into 64 bits.
 #[tactic(auto, unfolding(crate::specs::Inline::inlining_of))]
 pub fn inline(alloc: Global, state: &State) -> Result<State, InlineRefusal>
     ensures gives { Gives memory result (inlining_of state.now) }
@@ -64,7 +65,7 @@ pub fn inline(alloc: Global, state: &State) -> Result<State, InlineRefusal>
     }
 }
 
-/// Inlines the segments, without checking the counts.
+/// Inlines the segments, without checking the numbers of constraints.
 #[tactic(auto, unfolding(crate::specs::Inline::inlined))]
 fn inlined(alloc: Global, state: &State) -> Result<State, Memory>
     ensures { IfOk result (λ s. s ≡ inlined_state state.now) }
@@ -111,7 +112,8 @@ fn inlined_features(
     Ok(inlined)
 }
 
-/// Inlines the segments into a feature. Shares the feature if none of its strategies refers to a segment.
+/// Inlines the segments into a feature. If none of its strategies refers to a segment, the result is another reference
+/// to the same feature.
 fn inlined_feature(
     alloc: Global,
     feature: &Shared<Feature>,
@@ -214,6 +216,7 @@ fn push_copies(
     Ok(())
 }
 
+/// Returns a constraint that no context meets: `userId` IN an empty list.
 fn holds_for_nobody(alloc: Global) -> Result<Constraint, Memory>
     ensures { IfOk result (λ c. c ≡ nobody_meets) }
 {

@@ -1,4 +1,4 @@
-//! Reading the value at a key of an object.
+//! Reading the value at a required or optional key of a JSON object.
 ghost use Rattle.std.specs.Prelude.{◌≡◌, option_map, IfOk, IfSome};
 ghost use Rattle.serde_json.specs.View.{view};
 ghost use Rattle.unl_documents.specs.Reading.{Gives};
@@ -12,7 +12,7 @@ use crate::text::Text;
 use serde_json::Value;
 use std::alloc::Global;
 
-/// Returns the value at a key; null counts as absent.
+/// Returns the value at a key. Returns `None` if the key is absent or null.
 #[tactic(auto, unfolding(crate::specs::Kinds::at))]
 pub fn value_at(field: Field, value: &Value) -> Option<&Value>
     ensures { option_map (λ found. view found.now) result ≡ at field (view value.now) }
@@ -26,7 +26,7 @@ pub fn value_at(field: Field, value: &Value) -> Option<&Value>
 /// Reads the value at a required key.
 ///
 /// # Errors
-/// `Missing` if the key is absent or null; otherwise those of the kind.
+/// `Missing` if the key is absent or null; otherwise the errors of `K::read`.
 #[tactic(auto, unfolding(crate::specs::Kinds::required))]
 pub fn required<K: Kind>(alloc: Global, field: Field, value: &Value) -> Result<K::Out, BadDocument>
     ensures gives { Gives result (required_at K.reads field (view value.now)) }
@@ -41,7 +41,7 @@ pub fn required<K: Kind>(alloc: Global, field: Field, value: &Value) -> Result<K
 /// Reads the value at an optional key. Returns `None` if the key is absent or null.
 ///
 /// # Errors
-/// Those of the kind.
+/// The errors of `K::read`.
 #[tactic(auto, unfolding(crate::specs::Kinds::optional))]
 pub fn optional<K: Kind>(
     alloc: Global,
@@ -60,7 +60,7 @@ pub fn optional<K: Kind>(
 /// Reads the value at an optional key. Returns the default if the key is absent or null.
 ///
 /// # Errors
-/// Those of the kind.
+/// The errors of `K::read`.
 #[tactic(auto, unfolding(crate::specs::Kinds::defaulted))]
 pub fn defaulted<K: Kind>(
     alloc: Global,
@@ -81,7 +81,8 @@ pub fn defaulted<K: Kind>(
 /// Reads the name at an optional key. Returns the default name if the key is absent or null.
 ///
 /// # Errors
-/// Those of a name, or `Memory`: out of memory.
+/// `WrongKind` if the value isn't a string, `Missing` if the string is empty, `TooLarge` if it has more than 255 bytes,
+/// or `Memory`: out of memory.
 #[tactic(auto, unfolding(crate::specs::Kinds::defaulted))]
 pub fn name_or(
     alloc: Global,

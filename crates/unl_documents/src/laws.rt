@@ -1,4 +1,5 @@
-//! Theorems about the definitions of documents. Each function here does nothing; its clauses are the theorem.
+//! Theorems about reading and writing documents. Each function here has an empty body; its `ensures` clauses are the
+//! theorem.
 ghost use Rattle.std.specs.Prelude.{◌≡◌, ◌↔◌, ◌≤◌, ℕ, List, Ok, Err, Some, None, length, map};
 ghost use Rattle.serde_json.specs.Data.{Data};
 ghost use Rattle.unl_documents.specs.declared.fault.BadDocument.{BadDocument};
@@ -44,15 +45,14 @@ pub fn states_are_read()
     ensures fault { (value : Data) (e : BadDocument) → (document state_of value ≡ Err e) ↔ (first_fault_of_state value ≡ Some e) }
 {}
 
-/// As [`features_are_read`], for feeds. The fault of a feed's `meta` object is the first of the faults of its keys.
+/// As [`features_are_read`], for feeds. The fault of a feed's `meta` object is the first fault of its keys.
 pub fn feeds_are_read()
     ensures read { (value : Data) (f : Feed) → (document feed_of value ≡ Ok f) ↔ (ReadsFeed value f × (first_fault_of_feed value ≡ None)) }
     ensures fault { (value : Data) (e : BadDocument) → (document feed_of value ≡ Err e) ↔ (first_fault_of_feed value ≡ Some e) }
     ensures meta { (value : Data) → fault_of (meta_of value) ≡ first (faults_of_meta value) }
 {}
 
-/// The fault of an object nested in a document is the first of the faults of its keys, in the order in which they are
-/// read.
+/// The fault of an object nested in a document is the first fault of its keys, in the order in which they are read.
 pub fn objects_have_their_first_fault()
     ensures overrides { (value : Data) → fault_of (override_of value) ≡ first (faults_of_override value) }
     ensures dependencies { (value : Data) → fault_of (dependency_of value) ≡ first (faults_of_dependency value) }
@@ -71,8 +71,8 @@ pub fn what_is_written_is_read()
         → document feed_of (feed_data head s) ≡ Ok (record { epoch = head.epoch; state = s; number = Some head.number }) }
 {}
 
-/// `in_order` returns the list sorted by key. If a key occurs twice there is no such list, and the fault names the
-/// least such key.
+/// `in_order` returns the list sorted by key, with strictly increasing keys. If a key occurs twice, there is no such
+/// list, and `in_order` returns `DuplicateName` with the least key that occurs twice.
 pub fn order_is_the_sorting<T>()
     ensures sorting { (key : T → List ℕ) (spelled : List ℕ → List ℕ) (field : Field) (xs ys : List T)
         → (in_order key spelled field xs ≡ Ok ys) ↔ IsSorting key xs ys }
@@ -81,7 +81,7 @@ pub fn order_is_the_sorting<T>()
         ↔ ((k : List ℕ) × IsLeastDuplicate k (map key xs) × (e ≡ DuplicateName field (spelled k))) }
 {}
 
-/// The value parsed from bytes is the one whose JSON text they are.
+/// Parsing bytes gives a value if and only if the bytes are a JSON text of that value.
 pub fn spelled_is_json()
     ensures { (bytes : List ℕ) (value : Data) → (json_of bytes ≡ Some value) ↔ IsJson bytes value }
 {}

@@ -18,7 +18,7 @@ pub fn read_json(alloc: Global, bytes: &[u8]) -> Result<Option<Value>, Memory>
     }
 }
 
-/// Parses a JSON object. Returns `None` if the bytes aren't one. The only error is out of memory.
+/// Parses a JSON object. Returns `None` if the bytes aren't a JSON object. The only error is out of memory.
 #[tactic(auto, unfolding(crate::specs::Results::object_in))]
 pub fn read_object(alloc: Global, bytes: &[u8]) -> Result<Option<Value>, Memory>
     ensures { IfOk result (λ found. option_map view found ≡ object_in bytes.now) }

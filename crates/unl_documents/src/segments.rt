@@ -6,7 +6,8 @@ use crate::list::List;
 use crate::segment::Segment;
 use crate::shared::Shared;
 
-/// Returns the first segment with this id, if there is one. If the ids increase strictly, it is the only one.
+/// Returns the first segment with this id, or `None`. In a valid state, ids increase strictly, so at most one segment
+/// has the id. This is a linear search.
 pub fn segment_of(segments: &List<Shared<Segment>>, id: u64) -> Option<&Segment>
     ensures { option_map (λ s. s.now) result ≡ segment_with id segments.now }
 {

@@ -28,7 +28,8 @@ pub fn is_name(text: &str) -> bool
     !text.is_empty() && text.len() <= 255
 }
 
-/// Splits the text at the first `mark`, an ASCII character. Returns `None` if the text doesn't contain it.
+/// Returns the texts before and after the first `mark`, an ASCII character. Returns `None` if the text doesn't contain
+/// `mark`.
 pub fn cut(text: &str, mark: char) -> Option<(&str, &str)>
     requires { mark < 128 }
     ensures parts { IfSome result (λ sides. parts mark text.now ≡ sides.0.now ∷ parts mark sides.1.now) }
@@ -38,7 +39,8 @@ pub fn cut(text: &str, mark: char) -> Option<(&str, &str)>
     text.split_once(mark)
 }
 
-/// Returns the items of a comma-separated list: its parts, trimmed, without the empty ones (chosen by this project).
+/// Returns the items of a comma-separated list: its parts, trimmed, without the empty ones (chosen by this
+/// project). The only error is out of memory.
 #[tactic(auto, unfolding(crate::specs::Texts::comma_items))]
 pub fn comma_items(alloc: Global, text: &str) -> Result<List<Text>, Memory>
     ensures { IfOk result (λ items. items ≡ comma_items text.now) }

@@ -17,10 +17,10 @@ use std::alloc::Global;
 
 /// A type that can be converted to a JSON value.
 pub trait ToValue: Drop {
-    // The JSON value that it is converted to.
+    // The JSON value that represents `self`.
     ghost written: { Self → Data };
 
-    /// Converts it to a JSON value.
+    /// Returns the JSON value that represents `self`.
     fn write(&self, alloc: Global) -> Result<Value, Memory>
         ensures { IfOk result (λ v. view v ≡ written self.now) };
 }
@@ -111,7 +111,7 @@ fn push_each<W: ToValue>(alloc: Global, values: &mut Vec<Value>, items: &[W]) ->
     Ok(())
 }
 
-/// Converts `value` and puts it at a key.
+/// Converts `value` to a JSON value and inserts it at a key, in place of any earlier value there.
 pub fn put<W: ToValue>(
     members: &mut Map<String, Value>,
     alloc: Global,
@@ -124,7 +124,7 @@ pub fn put<W: ToValue>(
     put_value(members, alloc, field, value.write(alloc)?)
 }
 
-/// Puts a JSON value at a key.
+/// Inserts a JSON value at a key, in place of any earlier value there.
 pub fn put_value(
     members: &mut Map<String, Value>,
     alloc: Global,
@@ -138,7 +138,7 @@ pub fn put_value(
     Ok(())
 }
 
-/// Converts the value and puts it at a key, if there is one.
+/// As [`put`], if there is a value. Otherwise leaves `members` unchanged.
 pub fn put_some<W: ToValue>(
     members: &mut Map<String, Value>,
     alloc: Global,
@@ -154,7 +154,7 @@ pub fn put_some<W: ToValue>(
     Ok(())
 }
 
-/// Puts a number at a key, unless the number is 0.
+/// As [`put`], if the number is not 0. Otherwise leaves `members` unchanged.
 pub fn put_unless_zero(
     members: &mut Map<String, Value>,
     alloc: Global,

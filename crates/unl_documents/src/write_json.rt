@@ -24,12 +24,13 @@ use std::alloc::Global;
 /// The initial capacity of an output buffer, in bytes.
 pub(crate) const ROOM: usize = 128;
 
-/// A type that writes itself as the JSON text of the value that it converts to.
+/// A type that can be written as JSON text. The text is that of the value returned by [`ToValue::write`].
 pub trait WriteJson: ToValue {
-    // Whether its parts are in the order in which the JSON text lists them.
+    // The condition for writing `self`: for example, the parameters of a strategy must be sorted by key, because the
+    // keys of an object are sorted in its JSON text.
     ghost is_printable: { Self → Type 0 };
 
-    /// Writes its JSON text.
+    /// Writes the JSON text of `self`.
     fn print(&self, out: &mut Writer) -> Result<(), Memory>
         requires { is_printable self.now }
         ensures { OnOk result (Wrote (tokens_of (Self.written self.now)) out.old out.new) };
@@ -101,7 +102,7 @@ impl<P: WriteJson> WriteJson for ChunkedList<P> {
     }
 }
 
-/// Writes the items of the chunks in order.
+/// Writes the items of the chunks in order, without brackets.
 fn print_chunks<P: WriteJson>(out: &mut Writer, chunks: &[Chunk<P>]) -> Result<(), Memory>
     requires { All P.is_printable (joined chunks.now) }
     ensures { OnOk result (Wrote (all_tokens (map P.written (joined chunks.now))) out.old out.new) }
@@ -112,7 +113,7 @@ fn print_chunks<P: WriteJson>(out: &mut Writer, chunks: &[Chunk<P>]) -> Result<(
     Ok(())
 }
 
-/// Writes the items in order.
+/// Writes the items in order, without brackets.
 pub fn print_each<P: WriteJson>(out: &mut Writer, items: &[P]) -> Result<(), Memory>
     requires { All P.is_printable items.now }
     ensures { OnOk result (Wrote (all_tokens (map P.written items.now)) out.old out.new) }
@@ -142,7 +143,7 @@ pub fn print_at<P: WriteJson>(out: &mut Writer, field: Field, value: &P) -> Resu
     value.print(out)
 }
 
-/// Writes a key and its value, if there is one.
+/// Writes a key and its value, or nothing if there is no value.
 pub fn print_some<P: WriteJson>(
     out: &mut Writer,
     field: Field,
@@ -157,14 +158,14 @@ pub fn print_some<P: WriteJson>(
     }
 }
 
-/// Writes a key and a number, unless the number is 0.
+/// Writes a key and a number, or nothing if the number is 0.
 pub fn print_unless_zero(out: &mut Writer, field: Field, number: u64) -> Result<(), Memory>
     ensures { OnOk result (Wrote (tokens_at_some field (option_map count (those_but_zero number))) out.old out.new) }
 {
     print_some(out, field, &unless_zero(number))
 }
 
-/// Returns the JSON text of a value.
+/// Returns the JSON text of a value, without whitespace between tokens.
 pub fn text_of<P: WriteJson>(alloc: Global, value: &P) -> Result<List<u8>, Memory>
     requires { P.is_printable value.now }
     ensures { IfOk result (λ text. text ≡ compact_text (P.written value.now)) }
