@@ -1,4 +1,4 @@
--- What a binary search finds among items with ascending keys.
+-- The result of a binary search among items with strictly ascending keys.
 use Rattle.std.proofs.Common.{◌≡◌, ℕ, zero, suc, ◌+◌, ◌<◌, ◌≤◌, Bool, true, false, List, [], ◌∷◌, map, length, get_or, Option, Some, None, Less, nat_cmp, inl, inr, refl, sym, ap, ◌∙◌, arith, cond}
 use Rattle.std.specs.Prelude.{option_and_then, slice_get}
 use Rattle.std.specs.Cmp.Lexicographic.{slice_cmp}
@@ -72,7 +72,7 @@ none_later key k low (y ∷ ys) after above =
     let not : has_key key k y ≡ false = not_later key k low y after above.0 in
     (rw not others.0, rw not others.1)
 
--- The one item at the index determines which item has the key, and whether any has it.
+-- The item at the index of the binary search decides: it has the key `k` exactly if any of the items has.
 abbrev pub IsDecidedByItem : {X : Type 0} → (X → List ℕ) → List ℕ → List X → Type 0
 IsDecidedByItem key k xs = (option_and_then (if_key key k) (slice_get xs (prefix_len (is_below key k) xs)) ≡ find (has_key key k) xs)
     × (option_map_or (has_key key k) (slice_get xs (prefix_len (is_below key k) xs)) false ≡ list_any (has_key key k) xs)

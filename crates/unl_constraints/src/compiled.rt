@@ -1,4 +1,4 @@
-//! Compiled constraints, whose right side is parsed once.
+//! Compiled constraints: prepared once, then evaluated with many contexts.
 ghost use Rattle.std.specs.Prelude.{◌≡◌, IfOk};
 ghost use Rattle.unl_constraints.specs.Constraint.{constraint_holds, all_hold as all_hold_spec};
 ghost use Rattle.unl_constraints.specs.Operands.{AreValues};
@@ -10,8 +10,8 @@ use std::marker::Model;
 use unl_context::Context;
 use unl_documents::{Constraint, List, Memory, Text, TryClone};
 
-/// A constraint with sorted values and a parsed value, for evaluation with many contexts. Contracts see it as the
-/// constraint.
+/// A constraint whose list of values is sorted and whose single value is parsed, for evaluation with many contexts. In
+/// contracts, the value of a `Compiled` is the constraint itself.
 #[derive(Drop)]
 pub struct Compiled {
     constraint: Constraint,
@@ -70,6 +70,7 @@ impl Compiled {
     }
 }
 
+/// Like [`Compiled::all_hold`].
 #[tactic(auto, unfolding(crate::specs::Constraint::all_hold))]
 fn all_compiled_hold(
     alloc: Global,

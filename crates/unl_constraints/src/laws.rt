@@ -1,4 +1,5 @@
-//! Laws that follow from the table of operators and from the order of numbers. Each is the contract of an empty function.
+//! Laws that follow from the table of operators and from the order of numbers. Each law is the contract of a function
+//! that does nothing.
 ghost use Rattle.std.specs.Cmp.{IsTotalOrder};
 ghost use Rattle.unl_constraints.specs.Decimal.{number_cmp};
 ghost use Rattle.unl_constraints.specs.Laws.{InvertedNegates, NotInIsContraryOfIn, NumbersCompare, NumGteIsContraryOfNumLt};
@@ -21,7 +22,7 @@ pub fn number_order_is_total()
     ensures total { IsTotalOrder number_cmp }
 {}
 
-/// If both sides are numbers, NUM_GTE is the negation of NUM_LT, and NUM_LTE that of NUM_GT.
+/// If both sides are numbers, NUM_GTE is the negation of NUM_LT, and NUM_LTE is the negation of NUM_GT.
 pub fn number_operators_are_contraries()
     ensures gte { NumGteIsContraryOfNumLt }
     ensures lte { NumLteIsContraryOfNumGt }

@@ -24,36 +24,37 @@ use std::alloc::Global;
 use unl_context::KnownField;
 use unl_documents::{Constraint, List, Memory, Operator, Text};
 
-/// What an operator compares.
+/// The kind of comparison that an operator makes.
 #[derive(Clone, Copy)]
 pub(crate) enum OperandKind {
-    /// The field with each whole value.
+    /// The context's field equals one of the constraint's values.
     Member,
-    /// The field with substrings that it may contain.
+    /// The context's field contains one of the constraint's values as a substring.
     Part,
-    /// Two numbers.
+    /// The context's field and the constraint's value are compared as numbers.
     Number,
-    /// Two instants.
+    /// The context's time and the constraint's value are compared as instants.
     Instant,
-    /// Two versions.
+    /// The context's field and the constraint's value are compared as versions.
     Version,
 }
 
 /// The right side of a constraint, parsed and sorted.
 #[derive(Drop)]
 pub(crate) struct Operand {
-    /// The values in the form in which they are compared, in ascending byte order, without duplicates.
+    /// The constraint's values in ascending byte order, without duplicates. They are case-folded if the operator
+    /// compares substrings and the constraint is case-insensitive.
     pub values: List<Text>,
-    /// The parsed value.
+    /// The constraint's single value, parsed.
     pub single: ScalarOperand,
-    /// Which of the context's six fields the constraint names, if it names one.
+    /// The constraint's field, if it is one of the six named fields of a context. `None` if it is a property.
     pub known: Option<KnownField>,
 }
 
 /// The value of a constraint, parsed as its operator needs.
 #[derive(Drop)]
 pub(crate) enum ScalarOperand {
-    /// The operator compares with the list of values instead.
+    /// Nothing is parsed, because the operator uses the list of values.
     Values,
     /// The number, if the value is one.
     Number(Option<Decimal>),
@@ -63,9 +64,10 @@ pub(crate) enum ScalarOperand {
     Version(Option<Version>),
 }
 
-/// The right side of a constraint, in a form that a context can be compared with.
+/// The right side of a constraint, ready for the comparison with a context. [`Operand`] is prepared once for many
+/// evaluations, and [`ScalarOperand`] for a single evaluation.
 pub(crate) trait OperandSide {
-    /// `self` is the right side of the constraint.
+    /// `self` is the prepared right side of the constraint.
     ghost is_of: { Constraint → Self → Type 0 };
 
     /// Whether a string is one of the constraint's values.
@@ -74,19 +76,20 @@ pub(crate) trait OperandSide {
         requires kind { kind_by constraint.now.operator ≡ kind.Member }
         ensures { result ≡ among constraint.now.values text.now };
 
-    /// Whether a string has one of the constraint's values at that position. The only error is out of memory.
+    /// Whether a string contains one of the constraint's values at this position. If the constraint is
+    /// case-insensitive, both are case-folded first. The only error is out of memory.
     fn has_part(
         &self,
         alloc: Global,
-        place: TextPosition,
+        position: TextPosition,
         constraint: &Constraint,
         text: &str,
     ) -> Result<bool, Memory>
         requires right { is_of constraint.now self.now }
         requires kind { kind_by constraint.now.operator ≡ kind.Part }
-        ensures { IfOk result (λ r. r ≡ some_there place constraint.now.caseless text.now constraint.now.values) };
+        ensures { IfOk result (λ r. r ≡ some_there position constraint.now.caseless text.now constraint.now.values) };
 
-    /// Returns which of the context's six fields the constraint names, if it names one.
+    /// Returns the constraint's field if it is one of the six named fields of a context, or `None` if it is a property.
     fn known(&self, constraint: &Constraint) -> Option<KnownField>
         requires { is_of constraint.now self.now }
         ensures { result ≡ known_by constraint.now.field };
@@ -108,12 +111,12 @@ impl OperandSide for Operand {
     fn has_part(
         &self,
         alloc: Global,
-        place: TextPosition,
+        position: TextPosition,
         constraint: &Constraint,
         text: &str,
     ) -> Result<bool, Memory> {
         let values = self.values.as_slice();
-        has_some_part_at(alloc, place, constraint.caseless, text, values)
+        has_some_part_at(alloc, position, constraint.caseless, text, values)
     }
 
     fn known(&self, _constraint: &Constraint) -> Option<KnownField> {
@@ -125,8 +128,8 @@ impl OperandSide for Operand {
     }
 }
 
-/// The constraint's values are searched in their original order: for a single evaluation, copying and sorting them doesn't
-/// pay.
+/// The constraint's values are searched in their original order: for a single evaluation, copying and sorting them
+/// doesn't pay.
 impl OperandSide for ScalarOperand {
     ghost is_of = { λ c s. IsScalarOperand (kind_by c.operator) c.value s };
 
@@ -137,12 +140,12 @@ impl OperandSide for ScalarOperand {
     fn has_part(
         &self,
         alloc: Global,
-        place: TextPosition,
+        position: TextPosition,
         constraint: &Constraint,
         text: &str,
     ) -> Result<bool, Memory> {
         let values = constraint.values.as_slice();
-        has_some_raw_part_at(alloc, place, constraint.caseless, text, values)
+        has_some_raw_part_at(alloc, position, constraint.caseless, text, values)
     }
 
     fn known(&self, constraint: &Constraint) -> Option<KnownField> {
@@ -183,7 +186,8 @@ impl ScalarOperand {
     }
 }
 
-/// Returns what the operator compares.
+/// Returns the kind of comparison that the operator makes. An unknown operator has the kind `Member`, but its
+/// constraint never holds.
 fn kind_of(operator: &Operator) -> OperandKind
     ensures { result ≡ kind_by operator.now }
 {
@@ -207,7 +211,8 @@ fn kind_of(operator: &Operator) -> OperandKind
     }
 }
 
-/// Whether the values are case-folded before they are compared.
+/// Whether the constraint's values are case-folded before they are compared: the operator compares substrings, and the
+/// constraint is case-insensitive.
 fn is_folded(constraint: &Constraint) -> bool
     ensures { result ≡ is_folded_by constraint.now }
 {
@@ -217,6 +222,8 @@ fn is_folded(constraint: &Constraint) -> bool
     }
 }
 
+/// Returns the constraint's values, sorted in ascending byte order and without duplicates. They are case-folded first
+/// if [`is_folded`] is true.
 fn values_of(alloc: Global, constraint: &Constraint) -> Result<List<Text>, Memory>
     ensures rising { IfOk result AreRising }
     ensures same { IfOk result (λ values. (test : List ℕ → Bool) → list_any test values ≡ list_any test (compared_values constraint.now)) }
@@ -226,7 +233,7 @@ fn values_of(alloc: Global, constraint: &Constraint) -> Result<List<Text>, Memor
     in_order(values)
 }
 
-/// Returns copies of the strings in the form in which they are compared.
+/// Copies the strings. If `folded`, the copies are case-folded.
 fn compared_each(alloc: Global, folded: bool, texts: &[Text]) -> Result<Vec<Text>, Memory>
     ensures { IfOk result (λ all. all.items ≡ map (compared_by folded) texts.now) }
 {
