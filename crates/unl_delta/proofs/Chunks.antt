@@ -1,4 +1,4 @@
--- Chunks of items whose keys ascend: where a key is, or belongs.
+-- Chunks of a list sorted by key: the chunk where a key is, or would be inserted.
 use Rattle.std.proofs.Common.{◌≡◌, ◌<◌, ◌≤◌, ◌+◌, ◌-◌, ℕ, zero, suc, Bool, true, false, Option, Some, None, List, [], ◌∷◌, ◌++◌, length, map, take, drop, get_or, Less, inl, inr, refl, sym, ap, subst, ◌∙◌, append_assoc, arith}
 use Rattle.std.specs.Prelude.{filter, find, remove, slice_get}
 use Rattle.std.specs.List.{AllByRecursion as Every, prefix_len}

@@ -1,4 +1,4 @@
--- Reading the events of a batch one after the other, and the order that they are then in.
+-- Reading the events of a batch one after the other gives a well-formed batch.
 use Rattle.std.proofs.Common.{◌≡◌, ◌&&◌, not, ℕ, ◌+◌, ◌<◌, ◌≤◌, Bool, true, false, cond, ltb, List, [], ◌∷◌, ◌++◌, length, get_or, drop, Option, Some, None, Result, Ok, Err, refl, sym, ap, subst, ◌∙◌, append_assoc, add-one, drop-cons, arith}
 use Rattle.std.specs.Prelude.{◌≢◌, IfOk, IfSome, ok_or, option_and_then, option_map}
 use Rattle.std.specs.List.{AllByRecursion as Every}
@@ -62,7 +62,7 @@ each_more prefix e each valid = every_append IsValidEvent prefix (e ∷ []) each
 
 -- ---- the order of the events read
 
--- the event is allowed at the position: a change unless it is first, with no number below the one before
+-- the event is allowed at index `place`: it is a change unless it is first, and its number is not below `before`
 record Fits (place before : ℕ) (e : Event) : Type 0 where
   pub change : 0 < place → is_change e ≡ true
   pub rises : before ≤ number_of e

@@ -1,4 +1,4 @@
--- The position where a key is, or belongs, among items whose keys ascend, and how it splits the items.
+-- The index where a key is, or would be inserted, in a list sorted by key, and how it splits the list.
 use Rattle.std.proofs.Common.{◌≡◌, ◌<◌, ◌≤◌, ◌+◌, ◌&&◌, ℕ, zero, suc, Bool, true, false, not, cond, None, List, [], ◌∷◌, ◌++◌, length, map, take, drop, get_or, Ordering, Less, Equal, Greater, inl, inr, refl, sym, ap, ◌∙◌, arith}
 use Rattle.std.specs.Prelude.{find, option_and_then, slice_get, slice_set, insert, remove}
 use Rattle.std.specs.List.{AllByRecursion as Every, prefix_len}
@@ -180,7 +180,7 @@ pub none_found : {T : Type 0} (key : T → List ℕ) (k : List ℕ) (xs : List T
 none_found key k [] h = refl
 none_found key k (y ∷ ys) h = rw (less_apart k (key y) h.0) (none_found key k ys h.1)
 
--- two keys are equal if neither comes before the other
+-- if neither of two keys comes before the other, they are equal
 same_key : (a b : List ℕ) → is_before a b ≡ false → is_before b a ≡ false → bytes_eq a b ≡ true
 same_key a b before after = sym (is_eq-slice_cmp a b) ∙ decided (cmp a b) (cmp b a) (nat_list_cmp_total.antisymm a b) before after
   where
@@ -191,7 +191,7 @@ same_key a b before after = sym (is_eq-slice_cmp a b) ∙ decided (cmp a b) (cmp
     decided Greater Equal turned first second = absurd cc
     decided Greater Greater turned first second = absurd cc
 
--- two keys are equal exactly if neither comes before the other
+-- two keys are equal if and only if neither comes before the other
 same_is : (a b : List ℕ) → (not (is_before a b) && not (is_before b a)) ≡ bytes_eq a b
 same_is a b = sym (decided (cmp a b) (cmp b a) (nat_list_cmp_total.antisymm b a)) ∙ is_eq-slice_cmp a b
   where

@@ -1,4 +1,4 @@
--- A batch that applies leads to no older version.
+-- A batch that applies never gives an older version.
 use Rattle.std.proofs.Common.{◌≡◌, ℕ, List, [], ◌∷◌, Bool, true, false, cond, Option, Some, None, inr, refl, arith, leb, ltb, leb-false, unwrap_or}
 use Rattle.unl_delta.specs.declared.batch.Batch.{Batch}
 use Rattle.unl_delta.specs.declared.batch.Verdict.{Verdict}
@@ -25,7 +25,7 @@ not_below_both (Some a) None c ab bc = absurd ab
 not_below_both (Some a) (Some b) None ab bc = absurd bc
 not_below_both (Some a) (Some b) (Some c) ab bc = up_to_both (revision_of a) (revision_of b) (revision_of c) ab bc
 
--- ---- a batch that applies leads to no older version
+-- ---- a batch that applies never gives an older version
 
 pub hydration_not_below : (version : Option EnvVersion) (held : Bool) (new : EnvVersion) → hydration_verdict version held new.epoch new.number ≡ Apply → IsNotBelow version (Some new)
 hydration_not_below None held new is = tt

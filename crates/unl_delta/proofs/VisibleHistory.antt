@@ -1,4 +1,4 @@
--- A history, its entries, and the history that is visible of it.
+-- The entries of a history, and the visible history: the list of those events of a history that a requester gets.
 use Rattle.std.proofs.Common.{◌≡◌, ℕ, ◌<◌, ◌≤◌, Bool, true, false, cond, List, [], ◌∷◌, ◌++◌, Option, Some, None, refl, sym, ap, subst, ◌∙◌, inl, inr}
 use Rattle.std.specs.Prelude.{option_map, ◌⊎◌}
 use Rattle.std.specs.List.{AllByRecursion as Every}
@@ -46,7 +46,7 @@ entries_up_to low n (e ∷ es) s h = decided (cases_lt n (number_of e)) (entries
         up_to_none entry_number n (entries_on s (e ∷ es)) (each_entry (λ (x : Event). n < number_of x) (e ∷ es) s all) ∙ sym (ap (entries_on s) (up_to_none number_of n (e ∷ es) all))
     decided (inr ge) more = simp (le-leb (number_of e) n ge) (ap (λ (rest : List Entry). record { event = e; was = was_in s e } ∷ rest) more)
 
--- the entries between two numbers are those of the events between them, applied to the state before
+-- the entries with numbers between a and m are those of the events between a and m, applied to the state at a
 pub entries_between : (low a m : ℕ) (es : List Event) (s : State) → a ≤ m → NeverFall number_of low es → between entry_number a m (entries_on s es) ≡ entries_on (fold_events (up_to number_of a es) s) (between number_of a m es)
 entries_between low a m es s le h =
     append_cancel_left (entries_on s (up_to number_of a es)) _ _ (
@@ -119,7 +119,7 @@ pub seen_between : (sees : Sees) (history : List Event) (a m : ℕ) → IsHistor
 seen_between sees history a m h =
     mapped_between (visible_entry sees) entry_number entry_number a m (entries_of history) (seen_number sees) ∙ ap (between entry_number a m) (sym (kept_entries sees history h))
 
--- the visible events between two revisions lead from the view of the one to the view of the other
+-- applying the visible events between a and m to the view of the revision at a gives the view of the revision at m
 pub kept_goes_on : (sees : Sees) (history : List Event) (a m : ℕ) → IsHistory history → a ≤ m → fold_events (visible_events sees (between entry_number a m (entries_of history))) (view_of sees (revision history a)) ≡ view_of sees (revision history m)
 kept_goes_on sees history a m h le =
     ap (λ (s : State). fold_events (visible_events sees (between entry_number a m (entries_of history))) s) (sym (kept_revision sees history a h)) ∙ ap (λ (es : List Event). fold_events es (revision (kept sees history) a)) (kept_between sees history a m)

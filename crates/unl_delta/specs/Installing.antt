@@ -1,4 +1,4 @@
--- What an installer holds, and what each call changes of it.
+-- The observable state of an installer, and how each call changes it.
 use Rattle.std.specs.Prelude.{ℕ, ◌+◌, ◌≡◌, ◌≢◌, List, Option, Some, None, slice_get, slice_set, true, false, unwrap_or}
 use Rattle.unl_tokens.specs.declared.token.Token.{Token}
 use Rattle.unl_delta.specs.declared.batch.Batch.{Batch}
@@ -7,7 +7,8 @@ use Rattle.unl_delta.specs.declared.batch.Verdict.TheVariants.{Apply, Repeat, Ol
 use Rattle.unl_delta.specs.declared.version.Place.{Place}
 use Rattle.unl_delta.specs.Batch.{empty_place, next_version}
 
--- the place of each slot, the number of publications, and the current book
+-- the observable state: the place of each slot (its version, and whether the slot is held), the number of publications (the front),
+-- and the current book of tokens
 pub record Installed : Type 0 where
   pub places : List Place
   pub front : ℕ
@@ -17,24 +18,24 @@ pub record Installed : Type 0 where
 abbrev pub place_of : Installed → ℕ → Place
 place_of now slot = unwrap_or (slice_get now.places slot) empty_place
 
--- with another place at a slot; all else stays
+-- the state with another place at a slot; the rest is unchanged
 abbrev pub with_place : ℕ → Place → Installed → Installed
 with_place slot place now = record { places = slice_set now.places slot place; front = now.front; book = now.book }
 
--- with one more publication; all else stays
+-- the state with one more publication; the rest is unchanged
 abbrev pub published : Installed → Installed
 published now = record { places = now.places; front = now.front + 1; book = now.book }
 
--- after a batch is applied and published at a slot, which is then not held
+-- the state after a batch is applied to a slot and published; the slot is then not held
 abbrev pub after_install : ℕ → Batch → Installed → Installed
 after_install slot batch now =
     published (with_place slot (record { version = Some (next_version (place_of now slot) batch); held = false }) now)
 
--- after a slot is held; nothing is published
+-- the state after a slot is held: only a hydration can apply to a held slot; its version is unchanged, and nothing is published
 abbrev pub after_hold : ℕ → Installed → Installed
 after_hold slot now = with_place slot (record { version = (place_of now slot).version; held = true }) now
 
--- after a slot takes a batch: one that applies is published, a gap holds the slot, any other verdict changes nothing
+-- the state after a slot takes a batch: `Apply` installs and publishes the batch, `Gap` holds the slot, any other verdict changes nothing
 abbrev pub after_batch : Verdict → ℕ → Batch → Installed → Installed
 after_batch Apply slot batch now = after_install slot batch now
 after_batch Gap slot batch now = after_hold slot now
@@ -42,7 +43,7 @@ after_batch Repeat slot batch now = now
 after_batch Old slot batch now = now
 after_batch Held slot batch now = now
 
--- one of three facts, by the verdict: the first for a batch that applies, the second for a gap, the third for any other
+-- one of three propositions, chosen by the verdict: `installs` for `Apply`, `holds` for `Gap`, `stays` for any other verdict
 abbrev pub ByVerdict : Verdict → Type 0 → Type 0 → Type 0 → Type 0
 ByVerdict Apply installs holds stays = installs
 ByVerdict Gap installs holds stays = holds
@@ -50,7 +51,8 @@ ByVerdict Repeat installs holds stays = stays
 ByVerdict Old installs holds stays = stays
 ByVerdict Held installs holds stays = stays
 
--- a book that is the current one is not published again; any other one is
+-- the option is the result of installing a book of tokens: `None` if the book equals the current one, and then nothing changes;
+-- otherwise the new front, and then the book is published
 abbrev pub IsBookInstalled : List Token → Installed → Option ℕ → Installed → Type 0
 IsBookInstalled book old None new = (book ≡ old.book) × (new ≡ old)
 IsBookInstalled book old (Some front) new =

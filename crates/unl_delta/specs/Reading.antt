@@ -1,4 +1,5 @@
--- How events and batches are read: the keys of each in order, each with its type. The forms are chosen by this project.
+-- How events and batches are read from JSON: the keys of each in order, each with the kind of its value. The JSON form is chosen by
+-- this project.
 use Rattle.std.specs.Prelude.{ℕ, ◌+◌, List, [], ◌∷◌, codes, length, ◌&&◌, not, nat_lt, Option, option_and_then, option_map, Result, Ok}
 use Rattle.std.specs.Prelude.{Err, ok_or, if◌then◌else◌, None}
 use Rattle.std.specs.Option.{option_or}
@@ -22,21 +23,21 @@ use Rattle.unl_delta.specs.State.{number_of, is_change}
 
 -- ---- events
 
--- the whole state of an environment
+-- reads a hydration: its number, and the state from the keys `features` and `segments`
 unfoldable pub hydration_of : Data → Reading Event
 hydration_of value = do
   number ← required any_whole field.EventId value
   state ← state_of value
   Ok (Hydration number state)
 
--- a feature was added or changed
+-- reads an event: a feature was added or changed
 unfoldable pub feature_updated_of : Data → Reading Event
 feature_updated_of value = do
   number ← required any_whole field.EventId value
   feature ← required (object_of feature_of) field.Feature value
   Ok (FeatureUpdated number feature)
 
--- a feature was removed, with the project that it had
+-- reads an event: a feature was removed from a project
 unfoldable pub feature_removed_of : Data → Reading Event
 feature_removed_of value = do
   number ← required any_whole field.EventId value
@@ -44,21 +45,21 @@ feature_removed_of value = do
   project ← defaulted (codes "default") name field.Project value
   Ok (FeatureRemoved number named project)
 
--- a segment was added or changed
+-- reads an event: a segment was added or changed
 unfoldable pub segment_updated_of : Data → Reading Event
 segment_updated_of value = do
   number ← required any_whole field.EventId value
   segment ← required (object_of segment_of) field.Segment value
   Ok (SegmentUpdated number segment)
 
--- a segment was removed
+-- reads an event: a segment was removed
 unfoldable pub segment_removed_of : Data → Reading Event
 segment_removed_of value = do
   number ← required any_whole field.EventId value
   id ← required any_whole field.SegmentId value
   Ok (SegmentRemoved number id)
 
--- an event of the type named by a word
+-- reads an event whose type is `word`; an unknown type is a fault
 unfoldable pub event_of_type : List ℕ → Data → Reading Event
 event_of_type word value =
     if bytes_eq word (codes "hydration") then hydration_of value else (
@@ -68,7 +69,7 @@ event_of_type word value =
     if bytes_eq word (codes "segment-removed") then segment_removed_of value else (
     Err (WrongKind field.Kind))))))
 
--- an event, or its first fault
+-- reads an event, or returns its first fault
 unfoldable pub event_of : Data → Reading Event
 event_of value = do
   word ← required any_text field.Kind value
@@ -76,28 +77,29 @@ event_of value = do
 
 -- ---- batches
 
--- a batch, or its first fault
+-- the result of reading a batch: the batch, or its first fault
 abbrev pub BatchReading : Type 0
 BatchReading = Result Batch BadBatch
 
--- any fault inside an event becomes BadEvent with the event's position
+-- any fault inside an event becomes `BadEvent` with the event's index `place`
 abbrev pub at_place : ℕ → Reading Event → Result Event BadBatch
 at_place place (Ok event) = Ok event
 at_place place (Err e) = Err (BadEvent place)
 
--- only the first event can be a hydration, and no number is below the one before it
+-- checks the event at index `place`: only the first event can be a hydration, and its number is not below `before`, the number of the
+-- event before it
 unfoldable pub in_order : ℕ → ℕ → Event → Result Event BadBatch
 in_order place before event =
     if nat_lt 0 place && not (is_change event) then Err (HydrationNotFirst place)
     else (if nat_lt (number_of event) before then Err (NotRising place) else Ok event)
 
--- the event at a position, after one with the number `before`
+-- reads and checks the event at index `place`; `before` is the number of the event before it
 unfoldable pub event_at : ℕ → ℕ → Data → Result Event BadBatch
 event_at place before value = do
   event ← at_place place (event_of value)
   in_order place before event
 
--- the events from a position on, or the first fault
+-- reads the events from index `place` on, or returns the first fault
 unfoldable pub events_from : ℕ → ℕ → Items → Result (List Event) BadBatch
 events_from place before no_items = Ok []
 events_from place before (item value values) = do
@@ -105,13 +107,13 @@ events_from place before (item value values) = do
   others ← events_from (place + 1) (number_of event) values
   Ok (event ∷ others)
 
--- any fault in a member other than the events becomes NotJson
+-- any fault in a key other than `events` becomes `NotJson`
 abbrev pub or_not_json : {T : Type 0} → Reading T → Result T BadBatch
 or_not_json (Ok x) = Ok x
 or_not_json (Err e) = Err NotJson
 
--- a batch from a JSON value; without `after` in the document it gets `held`, the number that the requester had,
--- and without an epoch it gets epoch 0
+-- reads a batch from a JSON value; if the key `after` is absent, the batch gets `held`, the number that the requester sent, and if the
+-- key `epoch` is absent, it gets epoch 0
 unfoldable pub batch_of : Option ℕ → Data → BatchReading
 batch_of held value = do
   items ← ok_or (option_and_then as_array (at field.Events value)) NotJson
@@ -120,15 +122,15 @@ batch_of held value = do
   events ← events_from 0 0 items
   Ok (record { epoch = epoch; after = option_or after held; events = events })
 
--- the longest batch that is read, in bytes
+-- the maximum length of a batch in JSON, in bytes (chosen by this project)
 abbrev pub longest_batch : ℕ
 longest_batch = 16777216
 
--- a batch from bytes in JSON
+-- reads a batch from bytes of JSON
 unfoldable pub batch_of_bytes : Option ℕ → List ℕ → BatchReading
 batch_of_bytes held bytes = if nat_lt longest_batch (length bytes) then Err NotJson else (ok_or (json_of bytes) NotJson >>= batch_of held)
 
--- a feed with a number is one hydration
+-- the batch of a feed with a number: one hydration; `None` for a feed without a number
 abbrev pub batch_of_feed : Feed → Option Batch
 batch_of_feed feed =
     option_map (λ number. record { epoch = feed.epoch; after = None; events = Hydration number feed.state ∷ [] }) feed.number

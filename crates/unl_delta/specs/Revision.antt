@@ -1,8 +1,8 @@
--- Revisions of an environment, and their order: by epoch first.
+-- Revisions of an environment, and their order: by epoch, then by number.
 use Rattle.std.specs.Prelude.{◌≡◌, ℕ, ◌==◌, ◌<◌, ◌≤◌, Bool, ◌&&◌, ◌||◌, nat_lt, ◌⊎◌}
 use Rattle.unl_delta.specs.declared.version.EnvVersion.{EnvVersion}
 
--- a number of an epoch
+-- a revision: a number, in the numbering of an epoch
 pub record Revision : Type 0 where
   pub epoch : ℕ
   pub number : ℕ

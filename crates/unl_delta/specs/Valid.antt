@@ -1,4 +1,5 @@
--- Well-formed and valid batches and versions.
+-- Well-formed batches and versions (kinds and numbers of events), and valid batches and versions (well formed, with contents within
+-- the limits).
 use Rattle.std.specs.Prelude.{ℕ, ◌≡◌, ◌≤◌, ◌+◌, List, [], ◌∷◌, drop, length, true, IfSome}
 use Rattle.std.specs.List.{AllByRecursion}
 use Rattle.unl_documents.specs.Limits.{IsName}
@@ -16,7 +17,7 @@ use Rattle.unl_delta.specs.State.{number_of, entry_number, is_change}
 
 -- ---- the order of events
 
--- the numbers start at low or above and never decrease
+-- the numbers never decrease, and the first is at least low
 abbrev pub NeverFall : {T : Type 0} → (T → ℕ) → ℕ → List T → Type 0
 NeverFall number low [] = Unit {0}
 NeverFall number low (x ∷ xs) = (low ≤ number x) × NeverFall number (number x) xs
@@ -26,7 +27,8 @@ pub record IsBatch (batch : Batch) : Type 0 where
   pub changes : AllByRecursion (λ e. is_change e ≡ true) (drop 1 batch.events)
   pub numbers : NeverFall number_of 0 batch.events
 
--- well formed: the entries are changes, and their numbers never decrease, are above the base and at most the version's number
+-- well formed: the entries are changes, and their numbers never decrease, are above `base` (entries with numbers up to `base` are
+-- dropped) and are at most the version's number
 pub record IsVersion (v : EnvVersion) : Type 0 where
   pub base : v.base ≤ v.number
   pub changes : AllByRecursion (λ entry. is_change entry.event ≡ true) v.entries
@@ -35,7 +37,7 @@ pub record IsVersion (v : EnvVersion) : Type 0 where
 
 -- ---- the contents of events
 
--- the documents and the names of an event are within the limits
+-- the state, feature, segment or names of an event are within the limits
 abbrev pub IsValidEvent : Event → Type 0
 IsValidEvent (Hydration n state) = IsValidState state
 IsValidEvent (FeatureUpdated n feature) = IsValidFeature feature
@@ -43,11 +45,11 @@ IsValidEvent (FeatureRemoved n name project) = IsName name × IsName project
 IsValidEvent (SegmentUpdated n segment) = IsValidSegment segment
 IsValidEvent (SegmentRemoved n id) = Unit {0}
 
--- so is the project that the event's feature had
+-- the event of an entry is within the limits, and so is `was`, the name of the project that its feature was in before the event
 abbrev pub IsValidEntry : Entry → Type 0
 IsValidEntry entry = IsValidEvent entry.event × IfSome entry.was IsName
 
--- a hydration can be read again if it has no more features and segments than a document may have
+-- the event can be read again after it is written: a hydration has at most 10,000 features and 1,000 segments
 abbrev pub IsReadable : Event → Type 0
 IsReadable (Hydration n state) = (length state.features ≤ 10000) × (length state.segments ≤ 1000)
 IsReadable (FeatureUpdated n feature) = Unit {0}
@@ -66,11 +68,11 @@ pub record IsValidVersion (v : EnvVersion) : Type 0 where
   pub state : IsValidState v.state
   pub entries : AllByRecursion IsValidEntry v.entries
 
--- the place has no version, or a valid one
+-- the place (the current version of one slot) has no version, or a valid version
 abbrev pub IsValidPlace : Place → Type 0
 IsValidPlace place = IfSome place.version IsValidVersion
 
--- the answer has no batch, or a valid one
+-- the answer has no batch, or a valid batch
 abbrev pub IsValidAnswer : DeltaAnswer → Type 0
 IsValidAnswer Same = Unit {0}
 IsValidAnswer (Sent batch) = IsValidBatch batch

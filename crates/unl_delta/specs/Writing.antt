@@ -1,4 +1,5 @@
--- How events and batches are written as JSON values. `put` keeps the keys in byte order.
+-- How events and batches are written as JSON values. `with` inserts a member in the byte order of the keys.
+-- `field.Kind` is the key `type`.
 use Rattle.std.specs.Prelude.{ℕ, List, Option, codes, option_map}
 use Rattle.serde_json.specs.Data.{Data, string, object, no_members}
 use Rattle.unl_documents.specs.declared.field.Field.TheVariants as field
@@ -7,7 +8,7 @@ use Rattle.unl_delta.specs.declared.batch.Batch.{Batch}
 use Rattle.unl_delta.specs.declared.event.Event.{Event}
 use Rattle.unl_delta.specs.declared.event.Event.TheVariants.{Hydration, FeatureUpdated, FeatureRemoved, SegmentUpdated, SegmentRemoved}
 
--- an event, with its type and number
+-- the JSON value of an event: its number, its type, and the keys of that type
 unfoldable pub event_data : Event → Data
 event_data (Hydration number state) = object (
     with field.Kind (string (codes "hydration")) (
@@ -37,7 +38,7 @@ event_data (SegmentRemoved number id) = object (
     with field.SegmentId (count id)
     no_members)))
 
--- the events, with an epoch and the number after which they come, if these are given
+-- the JSON value of a batch; `epoch` and `after` are left out if they are `None`
 unfoldable pub batch_with : Option ℕ → Option ℕ → List Event → Data
 batch_with epoch after events = object (
     with_some field.Epoch (option_map count epoch) (
@@ -45,6 +46,6 @@ batch_with epoch after events = object (
     with field.Events (list_data event_data events)
     no_members)))
 
--- a batch: its events, its epoch unless that is 0, and the number after which they come if it has one
+-- the JSON value of a batch: its events, its epoch unless it is 0, and `after` if the batch has one
 unfoldable pub batch_data : Batch → Data
 batch_data batch = batch_with (unless_zero batch.epoch) batch.after batch.events

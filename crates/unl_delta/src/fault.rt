@@ -1,24 +1,26 @@
-//! The error of reading a batch.
+//! `BadBatch`: the error of reading a batch from JSON.
 ghost use Rattle.std.specs.Prelude.{◌≡◌};
 ghost use Rattle.unl_delta.specs.declared.fault.BadBatch.TheVariants.{Memory as memory};
 
 use thiserror::Error;
 use unl_documents::Memory;
 
-/// Why a document is not a batch: its first fault, or out of memory.
+/// Why a batch couldn't be read: the first fault found, or out of memory.
 #[derive(Clone, Copy, Debug, PartialEq, Eq, Error)]
 pub enum BadBatch {
-    /// Not JSON, too many bytes, no list of events, or an `epoch` or `after` that is not an unsigned whole number.
+    /// The bytes are not JSON or are more than 16,777,216; or `events` is not a list; or `epoch` or `after` is not a
+    /// whole number from 0 to 2^64 - 1.
     #[error("the batch is not JSON")]
     NotJson,
-    /// An event can't be read. Holds the position of the first such event, counted from 0.
+    /// An event can't be read. The field is the index of the event in the list, counted from 0.
     #[error("event {0} is not accepted")]
     BadEvent(u64),
-    /// A hydration comes after another event. Holds its position.
+    /// A hydration comes after another event. The field is the index of the hydration.
     #[error("event {0} is a hydration, which comes first")]
     HydrationNotFirst(u64),
-    /// An event's number is below that of the event before it. Holds its position.
-    #[error("the number of event {0} is not above the one before")]
+    /// An event's number is less than that of the event before it. Equal numbers are allowed. The field is the index of
+    /// the event.
+    #[error("the number of event {0} is below the one before")]
     NotRising(u64),
     /// Out of memory.
     #[error("out of memory")]

@@ -1,4 +1,4 @@
-//! Prints batches as JSON text, without building a JSON value.
+//! Writes batches as JSON text, without building a JSON value. The only error of the functions here is out of memory.
 ghost use Rattle.std.specs.Prelude.{◌≡◌, ◌∷◌, ◌++◌, [], OnOk};
 ghost use Rattle.json.specs.Token.{begin_object, end_object};
 ghost use Rattle.serde_json.specs.Data.{string};
@@ -16,7 +16,7 @@ use json::Writer;
 use unl_documents::write_json::{WriteJson, print_at, print_some, print_unless_zero};
 use unl_documents::{Feature, Field, Memory, Segment, Shared, State, Text};
 
-/// Begins an event and prints its number.
+/// Writes the start of an event: the brace and the number.
 fn begin_event(out: &mut Writer, number: u64) -> Result<(), Memory>
     ensures { OnOk result (Wrote (begin_object ∷ tokens_at field.EventId (count number)) out.old out.new) }
 {
@@ -24,7 +24,7 @@ fn begin_event(out: &mut Writer, number: u64) -> Result<(), Memory>
     print_at(out, Field::EventId, &number)
 }
 
-/// Prints the event's type and ends the event.
+/// Writes the end of an event: the type `word` and the brace.
 fn end_event(out: &mut Writer, word: &str) -> Result<(), Memory>
     ensures { OnOk result (Wrote (tokens_at field.Kind (string word.now) ++ end_object ∷ []) out.old out.new) }
 {

@@ -1,4 +1,4 @@
-//! Reads batches from JSON.
+//! Reads batches from JSON. The JSON form of batches is chosen by this project.
 ghost use Rattle.std.specs.Prelude.{◌≡◌, IfOk, IfSome};
 ghost use Rattle.std.specs.List.{AllByRecursion};
 ghost use Rattle.serde_json.specs.View.{view, items_view};
@@ -82,6 +82,7 @@ fn read_segment_removed(alloc: Global, value: &Value) -> Result<Event, BadDocume
     Ok(Event::SegmentRemoved { number, id })
 }
 
+/// Reads an event of the type `word`.
 #[tactic(auto, unfolding(crate::specs::Reading::event_of_type))]
 fn read_event_of_type(alloc: Global, word: &str, value: &Value) -> Result<Event, BadDocument>
     ensures gives { Reads result (event_of_type word.now (view value.now)) }
@@ -97,6 +98,7 @@ fn read_event_of_type(alloc: Global, word: &str, value: &Value) -> Result<Event,
     }
 }
 
+/// Reads an event: first the key `type`, then the keys of that type.
 #[tactic(auto, unfolding(crate::specs::Reading::event_of))]
 fn read_event(alloc: Global, value: &Value) -> Result<Event, BadDocument>
     ensures gives { Reads result (event_read (view value.now)) }
@@ -106,7 +108,7 @@ fn read_event(alloc: Global, value: &Value) -> Result<Event, BadDocument>
     read_event_of_type(alloc, word.as_str(), value)
 }
 
-/// Reads the event at a position, without regard to the events before it.
+/// Reads the event at index `place`, without a check against the event before it.
 fn lone_event(alloc: Global, place: usize, value: &Value) -> Result<Event, BadBatch>
     ensures gives { Gives memory result (at_place place (event_read (view value.now))) }
     ensures valid { IfOk result IsValidEvent }
@@ -118,6 +120,7 @@ fn lone_event(alloc: Global, place: usize, value: &Value) -> Result<Event, BadBa
     }
 }
 
+/// Checks the event at index `place` against the number of the event before it.
 #[tactic(auto, unfolding(crate::specs::Reading::in_order))]
 fn in_order(place: usize, before: u64, event: Event) -> Result<Event, BadBatch>
     ensures order { result ≡ ordered place before event }
@@ -132,6 +135,7 @@ fn in_order(place: usize, before: u64, event: Event) -> Result<Event, BadBatch>
     Ok(event)
 }
 
+/// Reads the event at index `place` and checks it against the number of the event before it.
 #[tactic(auto, unfolding(crate::specs::Reading::event_at))]
 fn event_at(alloc: Global, place: usize, before: u64, value: &Value) -> Result<Event, BadBatch>
     ensures gives { Gives memory result (event_read_at place before (view value.now)) }
@@ -141,6 +145,7 @@ fn event_at(alloc: Global, place: usize, before: u64, value: &Value) -> Result<E
     in_order(place, before, event)
 }
 
+/// Reads all events of a batch, up to the first fault.
 fn events_of(alloc: Global, values: &[Value]) -> Result<List<Event>, BadBatch>
     ensures gives { Gives memory result (events_from 0 0 (items_view values.now)) }
     ensures valid { IfOk result (AllByRecursion IsValidEvent) }
@@ -159,7 +164,7 @@ fn events_of(alloc: Global, values: &[Value]) -> Result<List<Event>, BadBatch>
     Ok(events)
 }
 
-/// The epoch of the events, 0 if the document has none.
+/// Reads the epoch of a batch. It is 0 if the key is absent or null.
 fn epoch_of(alloc: Global, value: &Value) -> Result<u64, BadBatch>
     ensures { Gives memory result
         (or_not_json (defaulted_at 0 any_whole field.Epoch (view value.now))) }
@@ -171,7 +176,7 @@ fn epoch_of(alloc: Global, value: &Value) -> Result<u64, BadBatch>
     }
 }
 
-/// The number after which the events come, if the document has one.
+/// Reads the number `after` of a batch, if the key is present.
 fn after_of(alloc: Global, value: &Value) -> Result<Option<u64>, BadBatch>
     ensures gives { Gives memory result
         (or_not_json (optional_at any_whole field.After (view value.now))) }
@@ -183,6 +188,7 @@ fn after_of(alloc: Global, value: &Value) -> Result<Option<u64>, BadBatch>
     }
 }
 
+/// As [`read_batch`], with a weaker clause `valid`.
 #[tactic(auto, unfolding(crate::specs::Reading::batch_of))]
 fn batch_of(alloc: Global, value: &Value, held: Option<u64>) -> Result<Batch, BadBatch>
     ensures gives { Gives memory result (batch_read held (view value.now)) }
@@ -201,10 +207,14 @@ fn batch_of(alloc: Global, value: &Value, held: Option<u64>) -> Result<Batch, Ba
     })
 }
 
-/// Reads a batch from a JSON value, or returns its first fault in the order of the events. If the document does not have the
-/// number after which its events come, the batch gets `held`, the number that the requester had.
+/// Reads a batch from a JSON value. If the key `after` is absent, the batch gets `held` instead: the number that the
+/// requester sent in its request.
 ///
-/// Returns `NotJson` if there is no list of events, or if an `epoch` or `after` is not an unsigned whole number.
+/// # Errors
+///
+/// `NotJson` if `events` is not a list, or if `epoch` or `after` is not a whole number from 0 to 2^64 - 1. Otherwise
+/// the fault of the first event that has a fault: `BadEvent`, `HydrationNotFirst` or `NotRising`. `Memory` if memory
+/// runs out.
 pub fn read_batch(alloc: Global, value: &Value, held: Option<u64>) -> Result<Batch, BadBatch>
     ensures gives { Gives memory result (batch_read held (view value.now)) }
     ensures valid { IfOk result IsValidBatch }
@@ -212,8 +222,12 @@ pub fn read_batch(alloc: Global, value: &Value, held: Option<u64>) -> Result<Bat
     batch_of(alloc, value, held)
 }
 
-/// Reads a batch from at most 16,777,216 bytes of JSON, as [`read_batch`] does. Returns `NotJson` for more bytes and for
-/// bytes that are not JSON.
+/// Reads a batch from bytes of JSON (RFC 8259).
+///
+/// # Errors
+///
+/// `NotJson` if there are more than 16,777,216 bytes (chosen by this project) or if the bytes are not JSON; otherwise
+/// as [`read_batch`].
 #[tactic(auto, unfolding(crate::specs::Reading::batch_of_bytes))]
 pub fn read_batch_bytes(alloc: Global, bytes: &[u8], held: Option<u64>) -> Result<Batch, BadBatch>
     ensures gives { Gives memory result (batch_of_bytes held bytes.now) }
@@ -228,7 +242,8 @@ pub fn read_batch_bytes(alloc: Global, bytes: &[u8], held: Option<u64>) -> Resul
     read_batch(alloc, &value, held)
 }
 
-/// Turns a feed into a batch with one hydration of the feed's epoch. Returns `None` exactly if the feed has no number.
+/// Converts a feed to a batch: one hydration with the feed's state, number and epoch. Returns `None` if and only if the
+/// feed has no number. The only error is out of memory.
 pub fn of_feed(alloc: Global, feed: Feed) -> Result<Option<Batch>, Memory>
     ensures batch { IfOk result (λ batch. batch ≡ batch_of_feed feed) }
     ensures valid { IsValidState feed.state → IfOk result (λ batch. IfSome batch IsValidBatch) }
@@ -236,6 +251,7 @@ pub fn of_feed(alloc: Global, feed: Feed) -> Result<Option<Batch>, Memory>
     one_hydration(alloc, feed)
 }
 
+/// As [`of_feed`], without the clause `valid`.
 fn one_hydration(alloc: Global, feed: Feed) -> Result<Option<Batch>, Memory>
     ensures { IfOk result (λ batch. batch ≡ batch_of_feed feed) }
 {

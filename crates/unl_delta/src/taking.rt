@@ -1,4 +1,4 @@
-//! The one way for a slot to take a batch.
+//! `take_batch`: the only function through which a batch changes the version of a slot.
 ghost use Rattle.std.specs.Prelude.{◌≡◌, ◌<◌, ◌-◌, ◌^◌, IfOk, OnErr, OnOk, length};
 ghost use Rattle.unl_delta.specs.Batch.{verdict_of};
 ghost use Rattle.unl_delta.specs.History.{PreservesLines};
@@ -11,15 +11,16 @@ use crate::verdicts::verdict;
 use std::alloc::Global;
 use unl_documents::Memory;
 
-/// Takes a batch into a slot and returns the verdict of the slot's place. A batch that applies is published by one install,
-/// a gap holds the slot, and any other verdict changes nothing.
+/// Decides on a batch for a slot, carries out the verdict and returns it. `Apply` installs and publishes the batch,
+/// `Gap` holds the slot, and any other verdict changes nothing.
 ///
-/// If the slot's version represents a line of histories and the batch is sent from that line, its version afterwards represents
-/// the line too.
+/// A line of histories has, for each epoch of an environment, the list of its events. Clause `represents`: if the
+/// slot's version represents a line and the batch was sent from that line, the slot's version afterwards represents the
+/// line too, and is not older.
 ///
 /// # Errors
 ///
-/// Out of memory. The places, the front and the book stay as they are.
+/// `Memory`: out of memory. The places, the number of publications and the book are then unchanged.
 pub fn take_batch<I: Installer>(
     alloc: Global,
     to: &mut I,
@@ -40,7 +41,7 @@ pub fn take_batch<I: Installer>(
     take(alloc, to, slot, batch)
 }
 
-/// Carries out the verdict.
+/// As [`take_batch`], without the clause `represents`.
 fn take<I: Installer>(
     alloc: Global,
     to: &mut I,

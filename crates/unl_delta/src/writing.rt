@@ -19,9 +19,10 @@ use std::alloc::Global;
 use unl_documents::to_value::{ToValue, put, put_some, put_unless_zero, put_value};
 use unl_documents::{Feature, Field, List, Memory, Segment, Shared, State, Text};
 
-/// Adds an event's type and number to its members.
+/// Inserts the keys that all events have: the type `word` and the number.
 ///
-/// `put` keeps the keys in byte order, so the members that only one type has are put in before these two.
+/// The contract lists the members in the order of insertion, so the other keys of an event are inserted before these
+/// two.
 fn put_head(
     members: &mut Map<String, Value>,
     alloc: Global,
@@ -144,9 +145,11 @@ impl ToValue for Batch {
     }
 }
 
-/// The JSON value that is read as the batch: its events, `epoch` unless it is 0, and `after` if the batch has one.
+/// Returns the JSON value of a batch: its events, its `epoch` unless it is 0, and `after` if the batch has this number.
+/// The only error is out of memory.
 ///
-/// A hydration that exceeds a document's limits on features and segments is written too, but can't be read again.
+/// The value of a valid batch reads back as the same batch, where a missing `after` becomes the requester's number. A
+/// hydration with more than 10,000 features or 1,000 segments is an exception: it is written, but reading rejects it.
 pub fn write_batch(alloc: Global, batch: &Batch) -> Result<Value, Memory>
     ensures written { IfOk result (λ v. view v ≡ batch_data batch.now) }
     ensures reads_back { IsValidBatch batch.now → AllByRecursion IsReadable batch.now.events
