@@ -17,7 +17,7 @@ applied_with ready up = record { up = committed ready up; number = ready.number 
 abbrev pub applied_by : UpstreamState → CommandResult Prepared → CommandResult AppliedCommand
 applied_by up result = result >>= λ ready. Ok (applied_with ready up)
 
--- a command has the result that its preparation leads to
+-- the result of a command is determined by the result of preparing it
 pub applies : (command : Command) (up : UpstreamState) (result : CommandResult Prepared)
     → prepared command up ≡ result → apply_command command up ≡ applied_by up result
 unfolding apply_command
@@ -35,7 +35,7 @@ pub applies_ready : (command : Command) (up after : UpstreamState) (ready : Prep
 applies_ready command up after ready number is counted published =
     applies command up (Ok ready) is ∙ (λ i. Ok (record { up = sym published i; number = sym counted i }))
 
--- the reply to it has the new version number
+-- the reply to a command that was prepared and committed has the new version number
 pub replies_ready : (command : Command) (up after : UpstreamState) (ready : Prepared) (number : ℕ) (reply : Reply)
     → prepared command up ≡ Ok ready → number ≡ ready.number → reply ≡ numbered number → after ≡ committed ready up
     → replied up (apply_command command up) ≡ record { reply = reply; up = after }

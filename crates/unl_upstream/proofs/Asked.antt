@@ -1,4 +1,4 @@
--- How many requests a link asked, and how many draws their answers took.
+-- The requests that were answered on a link, and the number of draws that were taken for them.
 use Rattle.std.proofs.Common.{◌≡◌, ℕ, ◌+◌, ◌⊎◌, inl, inr, List, [], ◌∷◌, length, Option, Some, None, refl, ap, ◌∙◌, arith}
 use Rattle.std.proofs.lemmas.List.{drop-drop}
 use Rattle.unl_base.specs.declared.draws.Draw.{Draw}
@@ -59,8 +59,8 @@ answered_draws {S} gives count (q ∷ qs) text before after answered =
 abbrev pub Stays : {S : Type 0} → S → Request → Draw → S → Type 0
 Stays before q draw after = after ≡ before
 
--- Its first requests, as many as were answered, and the number of draws that they took: as many, or one more if memory ran
--- out.
+-- The first requests of the link, one for each answer, and the number of draws taken for them: one each, or one more in all if
+-- memory ran out.
 pub record Took
     {S : Type 0} (gives : Giving S) (bytes : List ℕ) (before : S) (coming : Coming) (end : End) (count : ℕ) (after : S) (coming_after : Coming) : Type 0 where
   pub requests : List Request

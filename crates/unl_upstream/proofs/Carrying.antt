@@ -1,4 +1,4 @@
--- What keeping commands preserves and changes.
+-- Keeping commands: which properties it preserves, and how it changes the upstream and its keeper.
 use Rattle.std.proofs.Common.{◌≡◌, ◌≢◌, ◌<◌, ◌≤◌, ◌⊎◌, inl, inr, ℕ, ◌+◌, Bool, true, false, cond, List, [], ◌∷◌, ◌++◌, drop, length, length-append, Option, Some, None, Result, Ok, Err, IsOk, IfErr, option_map, IfSome, refl, sym, ap, ◌∙◌, subst, arith, append_assoc, append-nil}
 use Rattle.std.specs.Prelude.{nat_lt}
 use Rattle.std.specs.Result.{IsErrAnd}
@@ -47,7 +47,7 @@ keepable_is command before ready is =
 room : {T : Type 0} (count : ℕ) (x : T) → count < 10000000 → with_room count (Ok x) ≡ Ok x
 room count x low = let yes : nat_lt count most_rows ≡ true = lt-ltb count most_rows low in rw yes refl
 
--- at the maximum there is none
+-- at the maximum there is no room
 no_room : {T : Type 0} (count : ℕ) (x : T) → 10000000 ≤ count → with_room count (Ok x) ≡ Err (KeeperFull count)
 no_room count x high = let no : nat_lt count most_rows ≡ false = le-ltb count most_rows high in rw no refl
 
@@ -65,7 +65,7 @@ refused_for count command up refusal e is refused some =
     let here : prepared command up ≡ Err refusal = refused (λ failure. some (is ∙ ap refused_as failure)) in
     ap (with_room count) (refuses_command command up refusal here) ∙ ap Err (sym is)
 
--- the same for a refusal that was converted and returned
+-- a refusal of a command, converted and returned as the error of keeping it, is the one that `with_room` states
 pub refused_by : {T : Type 0} (r : Result T KeepCommandRefusal) (count : ℕ) (command : Command) (up : UpstreamState) (refusal : CommandRefusal)
     → IsErrAnd r (λ e. e ≡ refused_as refusal) → (refusal ≢ command_refusal.Memory → prepared command up ≡ Err refusal)
     → IfErr r (λ e. e ≢ Memory → with_room count (apply_command command up) ≡ Err e)
@@ -118,7 +118,7 @@ refuses command state KeeperFault because =
     absurd (no_fault state.keeper.count (apply_command command state.up) (because (not_memory KeeperFault refl)))
 refuses command state Memory because = refl
 
--- the result of storing a text, as that of keeping its command
+-- converts the result of storing a text to the result of keeping its command
 abbrev pub kept_as : Result ℕ KeepRefusal → Result ℕ KeepCommandRefusal
 kept_as (Ok number) = Ok number
 kept_as (Err fault.Fault) = Err KeeperFault
@@ -128,7 +128,7 @@ is_ok : {T E : Type 0} (r : Result T E) (x : T) → r ≡ Ok x → IsOk r
 is_ok (Ok y) x is = refl
 is_ok (Err e) x is = absurd cc
 
--- the result of keeping a command, by that of the put of its text
+-- the result of keeping a command, from the result of the put of its text
 pub keeps_by_put : (command : Command) (before after : KeptState) (ready : Prepared) (text : List ℕ) (result : Result ℕ KeepRefusal)
     → IsPending command before ready text → Puts ready text before result after → KeepsCommand command before (kept_as result) after
 keeps_by_put command before after ready text (Ok number) pending puts =
@@ -159,7 +159,7 @@ accepted_kept command before obeyed is = decided (apply_command command before.u
 
 -- ---- what changed
 
--- the acknowledged commands, all accepted, are all that changed the upstream, and the keeper counts them
+-- only the acknowledged commands changed the upstream, all of them are accepted, and the keeper counts them
 moves_by : (tried : List KeepAttempt) (before after : KeptState) → after.up ≡ after_commands (acknowledged tried) before.up
     → accepted (acknowledged tried) before.up ≡ acknowledged tried → after.keeper.count ≡ before.keeper.count + length (acknowledged tried)
     → Moves tried before after
@@ -355,7 +355,7 @@ has_one command before (Err Memory) after has keeps = has_same before after has 
 
 -- ---- one after another
 
--- appending two lists of commands in turn
+-- appending one list of commands and then another is appending both together
 pub both_behind : (first second : List Command) (o : Option (List Command))
     → option_map (λ commands. commands ++ second) (option_map (λ commands. commands ++ first) o) ≡ option_map (λ commands. commands ++ (first ++ second)) o
 both_behind first second None = refl
@@ -397,7 +397,7 @@ pub keeps_both : (first second : List KeepAttempt) (before middle after : KeptSt
 keeps_both [] second before middle after one two = subst (λ (s : KeptState). AttemptsInOrder second s after) one two
 keeps_both (t ∷ first) second before middle after one two = (one.0, one.1, keeps_both first second one.0 middle after one.2 two)
 
--- the acknowledged ones of two lists of attempts
+-- the acknowledged commands of two lists of attempts are those of the first list, then those of the second
 pub acknowledged_both : (first second : List KeepAttempt) → acknowledged (first ++ second) ≡ acknowledged first ++ acknowledged second
 acknowledged_both [] second = refl
 acknowledged_both (one ∷ first) second = decided one.result (acknowledged_both first second)
@@ -407,14 +407,14 @@ acknowledged_both (one ∷ first) second = decided one.result (acknowledged_both
     decided (Ok number) others = ap (λ (cs : List Command). one.command ∷ cs) others
     decided (Err refusal) others = others
 
--- the failures of the keeper in two lists of attempts
+-- the numbers of keeper failures in two lists of attempts add up
 pub faults_both : (first second : List KeepAttempt) → faults_among (first ++ second) ≡ faults_among first + faults_among second
 faults_both [] second = omega arith
 faults_both (one ∷ first) second = let others : faults_among (first ++ second) ≡ faults_among first + faults_among second = faults_both first second in omega (arith, others)
 
 -- ---- any attempts
 
--- attempts that lead to a state, and more from there on
+-- attempts that lead to a state, followed by more attempts from that state
 pub keeps_more : (start before after : KeptState) (tried : List KeepAttempt) → SomeAttempts start before → AttemptsInOrder tried before after → SomeAttempts start after
 keeps_more start before after tried led keeps =
     record { tried = led.tried ++ tried; keeps = keeps_both led.tried tried start before after led.keeps keeps }
@@ -422,11 +422,11 @@ keeps_more start before after tried led keeps =
 pub holds_on : (before after : KeptState) → HasKept before.keeper → SomeAttempts before after → AttemptsPreserve before after
 holds_on before after has some = record { some = some; carries = carries_all some.tried before after has some.keeps }
 
--- no attempt at all
+-- without any attempt, everything is preserved
 pub holds_still : (state : KeptState) → HasKept state.keeper → AttemptsPreserve state state
 holds_still state has = holds_on state state has (record { tried = []; keeps = refl })
 
--- the same, ending in an equal state
+-- as above, if the state after is equal to the state before
 pub holds_same : (before after : KeptState) (up : UpstreamState) (keeper : KeeperState) → AttemptsPreserve before after → after.up ≡ up → after.keeper ≡ keeper
     → AttemptsPreserve before (record { up = up; keeper = keeper })
 holds_same before after up keeper holds first second = subst (AttemptsPreserve before) (λ i. record { up = first i; keeper = second i }) holds

@@ -1,5 +1,5 @@
--- Results with different constructors differ, and equal ones have equal values. Over plain variables: at a large term these
--- cost nothing.
+-- Results with different constructors differ, and equal ones have equal values. These are stated over plain variables, so that
+-- their use at a large term is cheap to check.
 use Rattle.std.proofs.Common.{◌≡◌, Result, Ok, Err, IsOk}
 
 pub ok_same : {T E : Type 0} (x y : T) → ◌≡◌ {A = Result T E} (Ok x) (Ok y) → x ≡ y

@@ -9,7 +9,7 @@ use Rattle.unl_upstream.specs.Upstream.{AppliedCommand, UpstreamState, apply_com
 use Rattle.unl_upstream.proofs.Leading.{Begins, IsApplied, begins, row_applied, row_applies}
 use Rattle.unl_upstream.proofs.VersionLemmas.{IsObeyed, obeyed_by, obeyed_with, ready_with}
 
--- the command is accepted there too, and results in the same slots
+-- a command accepted by one such upstream is accepted by the other too, and results in the same slots
 pub record AcceptedThere (command : Command) (up after other : UpstreamState) : Type 0 where
   pub obeyed : AppliedCommand
   pub accepts : apply_command command other ≡ Ok obeyed
@@ -27,7 +27,7 @@ accepted_there command up other obeyed same accepts =
       same = ap (taking o.slot (version_after o.version o.event)) same ∙ sym (ap (λ (u : UpstreamState). u.board.slots) o.is);
     }
 
--- the rows can be applied there too, and result in the same slots
+-- rows that can be applied to one such upstream can be applied to the other too, and result in the same slots
 pub record ResultsThere (rows : List (List ℕ)) (after other : UpstreamState) : Type 0 where
   pub last : UpstreamState
   pub leads : rows_after rows other ≡ Some last

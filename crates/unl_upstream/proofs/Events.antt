@@ -41,7 +41,7 @@ numbered n event e is = decided (n == last_number) is
     decided true refused = err_is_no_ok (TooMany n) e refused
     decided false is_event = sym (ok_same (event (n + 1)) e is_event)
 
--- the result after a test that passed
+-- if a result that depends on a test is a success, it is the result of the rest after the test
 after_test : (t : Bool) (refusal : CommandRefusal) (rest : CommandResult Event) (e : Event) → (cond t (Ok tt) (Err refusal) >>= λ (u : Unit {0}). rest) ≡ Ok e → rest ≡ Ok e
 after_test true refusal rest e is = is
 after_test false refusal rest e is = err_is_no_ok refusal e is

@@ -1,4 +1,4 @@
--- What the answered requests of a connection keep.
+-- The commands of the answered requests of a connection, and how they are kept.
 use Rattle.std.proofs.Common.{◌≡◌, ◌≢◌, ℕ, ◌+◌, ◌⊎◌, inl, inr, List, [], ◌∷◌, ◌++◌, Option, Some, None, Result, Ok, Err, IfOk, OnErr, refl, sym, ap, ◌∙◌, subst, arith}
 use Rattle.unl_base.specs.declared.draws.Draw.{Draw}
 use Rattle.unl_server.specs.Handling.{HandlerState, HandlesRequest, RunsOutOfMemory}
@@ -13,17 +13,17 @@ use Rattle.http.specs.StatusCode.{IsStatusCode}
 use Rattle.unl_keeper.specs.declared.refusal.KeepRefusal.TheVariants as fault
 use Rattle.unl_documents.specs.declared.memory.Memory.{Memory as Failure}
 use Rattle.unl_upstream.specs.declared.command.Command.{Command}
-use Rattle.unl_upstream.specs.declared.command_or_reply.CommandOrReply.TheVariants as order
+use Rattle.unl_upstream.specs.declared.command_or_reply.CommandOrReply.TheVariants as variant
 use Rattle.unl_upstream.specs.declared.refusal.KeepCommandRefusal.{KeepCommandRefusal}
 use Rattle.unl_upstream.specs.declared.refusal.KeepCommandRefusal.TheVariants.{KeeperFault, Memory}
-use Rattle.unl_upstream.specs.Answer.{done, numbered, order_of, refused, upstream_answer}
+use Rattle.unl_upstream.specs.Answer.{done, numbered, command_or_reply_of, refused, upstream_answer}
 use Rattle.unl_keeper.specs.State.{HasKept}
 use Rattle.unl_upstream.specs.Kept.{AttemptsInOrder, IsPending, KeptState, Puts, KeepAttempt, faults_among, keepable}
 use Rattle.unl_upstream.specs.KeptServing.{CarriesAnswer, AnswersByKeeping, KeptStateUnchanged, ServesKept, KeptServing, KeptServingRunsOut, NoKeeperFault, RepliesTo, ServesKeptRequest, RepliesByCommand, tried_in, tried_of}
 use Rattle.unl_upstream.specs.Requests.{command_given}
 use Rattle.unl_upstream.specs.Upstream.{Prepared}
 use Rattle.unl_upstream.proofs.Constructors.{err_same, ok_is_no_err}
-use Rattle.unl_upstream.proofs.Given.{order_has, ordered}
+use Rattle.unl_upstream.proofs.Given.{command_of_request, command_within}
 use Rattle.unl_upstream.proofs.Carrying.{carries_all, faults_both, keeps_by_put, refuses}
 use Rattle.unl_upstream.proofs.Statuses.{answered_without_fault, answered_status, kept_without_fault, kept_status}
 
@@ -67,7 +67,7 @@ shows seen before after = record {
   runs_out = λ state q lacks. runs_out_seen seen state after q lacks;
 }
 
--- ---- what is kept
+-- ---- the kept commands
 
 -- the attempts of one request come before those of the others
 keeps_first : (given : Option Command) (before middle after : KeptState) (q : Request) (draw : Draw) (reply : Reply) (others : List KeepAttempt)
@@ -89,7 +89,7 @@ replies_without_fault : (given : Option Command) (before after : KeptState) (q :
 replies_without_fault None before after q draw reply by_command none = answered_without_fault reply before.up before.up q draw by_command.1
 replies_without_fault (Some command) before after q draw reply by_command none = λ is. kept_without_fault by_command.result (omega (arith, none)) (sym by_command.is ∙ is)
 
--- so no reply is, if the keeper failed at none of them
+-- if the keeper failed at none of the commands of these requests, no reply is 503 `KeeperFault`
 pub without_fault_in : (count : ℕ) (qs : List Request) (text : List ℕ) (before after : KeptServing) (answered : AreAnswered ServesKeptRequest count before qs text after)
     → faults_among (tried_in count before qs text after answered) ≡ 0 → NoKeeperFault count before qs text after answered
 without_fault_in count [] text before after answered none = tt
@@ -102,7 +102,7 @@ without_fault_in count (q ∷ qs) text before after (reply, middle, more, step, 
       without_fault_in (count + 1) qs more middle after rest (omega (arith, none, both)),
     )
 
--- `count` requests were answered, and attempts to keep their commands are all that changed the upstream and its keeper
+-- `count` requests were answered, and nothing but attempts to keep their commands changed the upstream and its keeper
 pub keeps_on : (before after : KeptServing) (end : End) (count : ℕ) → HasKept before.state.keeper → Reaches ServesKeptRequest KeptServingRunsOut before end after count
     → ServesKept before end count after
 keeps_on before after end count has reaches =
@@ -123,11 +123,11 @@ keeps_on before after end count has reaches =
 
 -- ---- one reply
 
--- a fault of the keeper is no lack of memory
+-- a fault of the keeper differs from running out of memory
 no_other_failure : ◌≢◌ {A = Result ℕ KeepCommandRefusal} (Err KeeperFault) (Err Memory)
 no_other_failure is = cc
 
--- the reply if its text was stored
+-- the reply to a command whose text was stored
 pub replies_kept : (command : Command) (before after : KeptState) (ready : Prepared) (text : List ℕ) (number made : ℕ) (reply : Reply)
     → IsPending command before ready text → made ≡ ready.number → reply ≡ numbered made → Puts ready text before (Ok number) after
     → RepliesTo command before reply after
@@ -138,7 +138,7 @@ replies_kept command before after ready text number made reply pending counted i
   is = is ∙ ap numbered (counted ∙ sym puts.is);
 }
 
--- the reply if the keeper failed
+-- the reply to a command at which the keeper failed
 pub replies_failed : (command : Command) (before after : KeptState) (ready : Prepared) (text : List ℕ) (reply : Reply)
     → IsPending command before ready text → reply ≡ refused KeeperFault → Puts ready text before (Err fault.Fault) after
     → RepliesTo command before reply after
@@ -149,7 +149,7 @@ replies_failed command before after ready text reply pending is puts = record {
   is = is;
 }
 
--- the reply if the command was refused
+-- the reply to a command that was refused
 pub replies_refused : (command : Command) (state : KeptState) (refusal : KeepCommandRefusal) (r : Result Reply Failure)
     → IfOk r (λ reply. reply ≡ refused refusal) → refusal ≢ Memory → (refusal ≢ Memory → keepable command state ≡ Err refusal)
     → IfOk r (λ reply. RepliesTo command state reply state)
@@ -168,20 +168,20 @@ same_still (Err e) x = refl
 
 -- ---- one answer
 
--- a request that gives no command is answered with the reply of its order
-pub replies_without_command : (before : KeptState) (q : Request) (draw : Draw) (reply : Reply) → order_of before.up q draw ≡ order.Reply reply → AnswersByKeeping before q draw reply before
+-- A request that gives no command is answered with the reply that it results in.
+pub replies_without_command : (before : KeptState) (q : Request) (draw : Draw) (reply : Reply) → command_or_reply_of before.up q draw ≡ variant.Reply reply → AnswersByKeeping before q draw reply before
 unfolding upstream_answer
 replies_without_command before q draw reply is =
-    let given : None ≡ command_given before.up.secret q = sym (ap ordered is) ∙ order_has before.up q draw in
+    let given : None ≡ command_given before.up.secret q = sym (ap command_within is) ∙ command_of_request before.up q draw in
     subst (λ (o : Option Command). RepliesByCommand o before q draw reply before) given (refl, ap (done before.up) is)
 
-pub replies_with_command : (before after : KeptState) (q : Request) (draw : Draw) (reply : Reply) (command : Command) → order_of before.up q draw ≡ order.Execute command
+pub replies_with_command : (before after : KeptState) (q : Request) (draw : Draw) (reply : Reply) (command : Command) → command_or_reply_of before.up q draw ≡ variant.Execute command
     → RepliesTo command before reply after → AnswersByKeeping before q draw reply after
 replies_with_command before after q draw reply command is replies =
-    let given : Some command ≡ command_given before.up.secret q = sym (ap ordered is) ∙ order_has before.up q draw in
+    let given : Some command ≡ command_given before.up.secret q = sym (ap command_within is) ∙ command_of_request before.up q draw in
     subst (λ (o : Option Command). RepliesByCommand o before q draw reply after) given replies
 
--- the attempts of one answered request lead from its state before to that after
+-- the attempt of one answered request, if it gives a command, leads from the state before it to the state after it
 keeps_given : (given : Option Command) (before after : KeptState) (q : Request) (draw : Draw) (reply : Reply) → (by_command : RepliesByCommand given before q draw reply after)
     → AttemptsInOrder (tried_of given before q draw reply after by_command) before after
 keeps_given None before after q draw reply by_command = by_command.0

@@ -1,4 +1,4 @@
--- Rows that are applied to an upstream, and the commands that they spell.
+-- Rows that are applied to an upstream, and the commands that are read from them.
 use Rattle.std.proofs.Common.{◌≡◌, ℕ, zero, suc, ◌≤◌, List, [], ◌∷◌, ◌++◌, length, map, take, slice_get, Option, Some, None, Ok, Err, option_and_then, refl, sym, ap, ◌∙◌, subst, arith}
 use Rattle.std.specs.List.{cons_option}
 use Rattle.std.proofs.lemmas.Option.{none-some}
@@ -14,7 +14,7 @@ use Rattle.unl_upstream.specs.Upstream.{AppliedCommand, CommandResult, UpstreamS
 
 -- ---- one row
 
--- a row that is applied spells a command that is accepted
+-- the text of a row that was applied is read as a command, which is accepted
 pub record IsApplied (text : List ℕ) (up after : UpstreamState) : Type 0 where
   pub command : Command
   pub obeyed : AppliedCommand
@@ -73,7 +73,7 @@ begins text texts up after is = next (row_after text up) refl is
     next None first is = absurd (none-some after is)
     next (Some middle) first is = record { middle = middle; first = first; others = is }
 
--- ---- rows and the commands that they spell
+-- ---- rows and the commands that are read from them
 
 -- the successful readings of these commands
 abbrev all_ok : List Command → List (Reading Command)
@@ -84,7 +84,7 @@ others_of : {X : Type 0} → List X → List X
 others_of [] = []
 others_of (x ∷ xs) = xs
 
--- one accepted command before others that are spelled and accepted
+-- one accepted command, before others that were read from their rows and are accepted
 results_first : (text : List ℕ) (texts : List (List ℕ)) (opening after : UpstreamState) (command : Command) (obeyed : AppliedCommand) → command_in text ≡ Ok command
     → apply_command command opening ≡ Ok obeyed → ResultIn obeyed.up texts after → ResultIn opening (text ∷ texts) after
 results_first text texts opening after command obeyed spelled accepts others =
@@ -107,12 +107,12 @@ rows_result (text ∷ texts) opening after is =
     results_first text texts opening after t.command t.obeyed t.spelled t.accepts
     (subst (λ (u : UpstreamState). ResultIn u texts after) (sym t.is) (rows_result texts b.middle after b.others))
 
--- a list of successful readings begins with no fault
+-- a list of successful readings does not begin with a fault
 no_fault : (commands : List Command) (fault : BadDocument) (others : List (Reading Command)) → Err fault ∷ others ≡ map Ok commands → ⊥
 no_fault [] fault others is = cc
 no_fault (command ∷ commands) fault others is = cc
 
--- no more commands are accepted than are given
+-- the number of accepted commands is at most the number of commands
 accepted_few : (commands : List Command) (up : UpstreamState) → length (accepted commands up) ≤ length commands
 accepted_few [] up = omega arith
 accepted_few (command ∷ commands) up = decided (apply_command command up) (accepted_few commands)
@@ -156,7 +156,7 @@ results_more texts text opening up command obeyed spelled accepts lead =
     rows_result (texts ++ text ∷ []) opening obeyed.up
     (rows_more texts text opening up obeyed.up (results_rows texts opening up lead) (row_applies text up command obeyed spelled accepts))
 
--- the commands of two lists of rows
+-- the commands of two lists of rows are those of the first list, then those of the second
 pub commands_both : (first second : List (List ℕ)) → commands_in (first ++ second) ≡ commands_in first ++ commands_in second
 commands_both [] second = refl
 commands_both (text ∷ first) second = decided (command_in text) (commands_both first second)
@@ -170,7 +170,7 @@ commands_both (text ∷ first) second = decided (command_in text) (commands_both
 pub command_one : (text : List ℕ) (command : Command) → command_in text ≡ Ok command → commands_in (text ∷ []) ≡ command ∷ []
 command_one text command spelled = ap (λ (r : Reading Command). cons_option (if_read r) []) spelled
 
--- if all rows can be applied, none of them is refused in its turn
+-- if all rows can be applied in order, none of them is refused
 pub no_stop : (rows : List (List ℕ)) (count : ℕ) (text : List ℕ) (opening up last : UpstreamState) → rows_after rows opening ≡ Some last
     → slice_get rows count ≡ Some text → rows_after (take count rows) opening ≡ Some up → row_after text up ≡ None → ⊥
 no_stop [] count text opening up last whole here before stops = none-some text here

@@ -1,4 +1,4 @@
--- Served links, on a door whose links are observable.
+-- The links that were served on a door whose links are observable.
 use Rattle.std.proofs.Common.{ℕ, zero, suc, List, [], Option, Some, Result, Ok, Err, refl, ap, subst}
 use Rattle.unl_base.specs.declared.Failed.{Failed}
 use Rattle.unl_server.specs.Handling.{Coming, handler_state}
@@ -56,7 +56,7 @@ door_links_seen Serves seen zero before after links = ap (server_seen seen) link
 door_links_seen Serves seen (suc n) before after links =
     (server_seen seen links.0, door_links_seen Serves seen n before links.0 links.1, link_seen Serves seen links.0 after links.2)
 
--- the links of a door were served; what this says depends on what is observable of it
+-- the links of a door were served; the conclusion depends on whether the door's links and the draws are observable
 pub door_links_served : {S T : Type 0} (Step : Steps T) (RunsOutAtRequest : RunsOut T) (Changes : Changing T) (seen : S → T) (result : Result ℕ Failed) (before after : ServerAndDoor S)
     → ServesDoor (ServesOver (ServesLinkBy Step RunsOutAtRequest Changes) seen) result before after
     → ServesAllLinksBy (LinkServedBy Step RunsOutAtRequest Changes) result (linking (seen before.server) before.coming before.door) (linking (seen after.server) after.coming after.door)

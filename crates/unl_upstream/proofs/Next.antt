@@ -18,7 +18,7 @@ use Rattle.unl_documents.specs.Limits.{IsName}
 use Rattle.unl_documents.specs.Valid.{IsValidFeature}
 use Rattle.unl_upstream.specs.Upstream.{IsNext, batch_of, is_feature_named, place_with}
 
--- ---- its batch
+-- ---- the batch of the next event
 
 -- a batch in the version's epoch, from its number up to a higher one, is to be applied
 later_applies : (v : EnvVersion) (n : ℕ) → v.number < n → changes_verdict (Some v) false v.epoch (Some v.number) n ≡ Apply
@@ -39,11 +39,11 @@ next_applies v (FeatureRemoved n name project) next = later_applies v n (omega (
 next_applies v (SegmentUpdated n segment) next = later_applies v n (omega (arith, next.number))
 next_applies v (SegmentRemoved n id) next = later_applies v n (omega (arith, next.number))
 
--- and is a valid batch
+-- the batch of the next event is a valid batch
 pub next_is_batch : (v : EnvVersion) (event : Event) → IsNext v event → IsValidBatch (batch_of v event)
 next_is_batch v event next = record { order = record { changes = tt; numbers = (omega arith, tt) }; events = (next.valid, tt) }
 
--- ---- the feature of a name
+-- ---- the feature with a given name
 
 -- the project of a feature, if one was found
 abbrev pub project_found : Option Feature → Option (List ℕ)

@@ -74,7 +74,7 @@ reopened before after count opened counted whole applies = record {
 
 -- ---- reopening what was kept
 
--- applying all rows of a keeper succeeds, and they spell the kept commands and at most one more
+-- applying all rows of a keeper succeeds, and they are read as the kept commands and at most one more
 record Whole (fresh : UpstreamState) (prefix rows : List (List ℕ)) (failed : List Command) : Type 0 where
   last : UpstreamState
   leads : rows_after rows fresh ≡ Some last

@@ -38,7 +38,7 @@ slots_opened epoch slots names are few different =
       different = subst AreDifferent (sym (names_of-opening epoch names)) different;
     })
 
--- each of them has an empty version
+-- each initial slot has an empty version
 pub opened_empty : (epoch : ℕ) (environment : List ℕ) (names : List (List ℕ)) (v : EnvVersion) → snapshot_in environment (map (opening_slot epoch) names) ≡ Some v → v ≡ empty_at epoch
 opened_empty epoch environment [] v is = absurd (none-some v is)
 opened_empty epoch environment (x ∷ xs) v is = decided (same_text x environment) is (opened_empty epoch environment xs v)
@@ -48,7 +48,7 @@ opened_empty epoch environment (x ∷ xs) v is = decided (same_text x environmen
     decided true found others = sym (same_Some (empty_at epoch) v found)
     decided false more others = others more
 
--- their environments are these names
+-- the environments of the initial slots are the given names
 pub opened_names : (epoch : ℕ) (environment : List ℕ) (names : List (List ℕ))
     → is_some (snapshot_in environment (map (opening_slot epoch) names)) ≡ list_any (λ name. same_text name environment) names
 opened_names epoch environment [] = refl
@@ -70,7 +70,7 @@ not_before test n j (x ∷ xs) is = decided (test x) is (not_before test (n + 1)
     decided true found others = let same : n ≡ j = same_Some n j found in omega arith
     decided false more others = let above : n + 1 ≤ j = others more in omega arith
 
--- the environment has the new version
+-- the environment whose slot was replaced has the new version
 pub slot_replaced : (environment : List ℕ) (n k : ℕ) (slots : List Slot) (v : EnvVersion) → position_from (is_named environment) n slots ≡ Some (k + n)
     → snapshot_in environment (taking k v slots) ≡ Some v
 slot_replaced environment n k [] v is = absurd (none-some (k + n) is)
@@ -115,7 +115,7 @@ other_slot_same environment other n (suc k) (x ∷ xs) v is apart = decided (is_
     decided true found others = let same : n ≡ suc k + n = same_Some n (suc k + n) found in absurd (omega arith)
     decided false more others = more_kept (is_named other x) (others (more ∙ ap Some (omega arith)))
 
--- ---- their names
+-- ---- the names of the slots' environments
 
 within : (name : List ℕ) → is_name name ≡ true → IsName name
 within name is =

@@ -20,7 +20,7 @@ use Rattle.unl_upstream.specs.declared.refusal.CommandRefusal.{CommandRefusal}
 use Rattle.unl_upstream.specs.declared.refusal.CommandRefusal.TheVariants as plainly
 use Rattle.unl_upstream.specs.declared.refusal.KeepCommandRefusal.{KeepCommandRefusal}
 use Rattle.unl_upstream.specs.declared.refusal.KeepCommandRefusal.TheVariants.{NoSuchEnvironment, NoSuchFeature, NoSuchSegment, TooMany, KeeperFull, KeeperFault, Memory}
-use Rattle.unl_upstream.specs.Answer.{Answered, done, is_commands_route, order_at, order_in, order_of, order_with, refused, replied, upstream_answer}
+use Rattle.unl_upstream.specs.Answer.{Answered, done, is_commands_route, command_or_reply_at, command_or_reply_in, command_or_reply_of, command_or_reply_with, refused, replied, upstream_answer}
 use Rattle.unl_upstream.specs.Command.{command_in}
 use Rattle.unl_upstream.specs.Kept.{keeper_faults}
 use Rattle.unl_upstream.specs.KeptServing.{kept_reply}
@@ -72,33 +72,33 @@ command_plain : (up : UpstreamState) (result : CommandResult AppliedCommand) →
 command_plain up (Ok applied) = inl is_200
 command_plain up (Err cause) = refused_plain cause
 
-either_order : (up : UpstreamState) (b : Bool) (x y : CommandOrReply) → IsPlain (done up x).reply → IsPlain (done up y).reply → IsPlain (done up (cond b x y)).reply
-either_order up true x y p q = p
-either_order up false x y p q = q
+either_command_or_reply : (up : UpstreamState) (b : Bool) (x y : CommandOrReply) → IsPlain (done up x).reply → IsPlain (done up y).reply → IsPlain (done up (cond b x y)).reply
+either_command_or_reply up true x y p q = p
+either_command_or_reply up false x y p q = q
 
-body_plain : (up : UpstreamState) (reading : Reading Command) → IsPlain (done up (order_in reading)).reply
+body_plain : (up : UpstreamState) (reading : Reading Command) → IsPlain (done up (command_or_reply_in reading)).reply
 body_plain up (Ok command) = command_plain up (apply_command command up)
 body_plain up (Err fault) = inl is_400
 
-token_plain : (up : UpstreamState) (q : Request) (token : Option (List ℕ)) → IsPlain (done up (order_with up q token)).reply
+token_plain : (up : UpstreamState) (q : Request) (token : Option (List ℕ)) → IsPlain (done up (command_or_reply_with up q token)).reply
 token_plain up q None = inl is_401
 token_plain up q (Some token) =
-    either_order up (bytes_eq token up.secret) (order_in (command_in q.body)) (Reply (refusal 403 (codes "UnknownToken")))
+    either_command_or_reply up (bytes_eq token up.secret) (command_or_reply_in (command_in q.body)) (Reply (refusal 403 (codes "UnknownToken")))
     (body_plain up (command_in q.body)) (inl is_403)
 
 answered_plain : (up : UpstreamState) (q : Request) (draw : Draw) → IsPlain (upstream_answer up q draw).reply
-unfolding upstream_answer order_of
+unfolding upstream_answer command_or_reply_of
 answered_plain up q draw =
-    either_order up (is_commands_route (route_of q.target)) (order_at up q) (Reply (answer_of up.board q draw).reply)
-    (either_order up (is_post q.method) (order_with up q q.token) (Reply (bad_method route.Commands)) (token_plain up q q.token) (inl is_405))
+    either_command_or_reply up (is_commands_route (route_of q.target)) (command_or_reply_at up q) (Reply (answer_of up.board q draw).reply)
+    (either_command_or_reply up (is_post q.method) (command_or_reply_with up q q.token) (Reply (bad_method route.Commands)) (token_plain up q q.token) (inl is_405))
     (answer_plain up.board q draw)
 
--- so every reply has an HTTP status
+-- every reply of an upstream has an HTTP status
 pub answered_status : (r : AReply) (up after : UpstreamState) (q : Request) (draw : Draw) → upstream_answer up q draw ≡ record { reply = r; up = after } → IsStatusCode r.status
 answered_status r up after q draw is =
     subst (λ (a : Answered). IsStatusCode a.reply.status) is (plain_status (upstream_answer up q draw).reply (answered_plain up q draw))
 
--- and without a keeper is never 503 `KeeperFault`
+-- the reply of an upstream without a keeper is never 503 `KeeperFault`
 pub answered_without_fault : (r : AReply) (up after : UpstreamState) (q : Request) (draw : Draw) → upstream_answer up q draw ≡ record { reply = r; up = after } → r ≢ refused KeeperFault
 answered_without_fault r up after q draw is =
     subst (λ (a : Answered). a.reply ≢ refused KeeperFault) is (plain_differs (upstream_answer up q draw).reply (answered_plain up q draw))
@@ -129,6 +129,6 @@ kept_status (Err (KeeperFull n)) = usual_code is_409
 kept_status (Err KeeperFault) = omega arith
 kept_status (Err Memory) = usual_code is_500
 
--- such a reply is 503 `KeeperFault` only if the keeper failed
+-- the reply to a command that was to be kept is 503 `KeeperFault` only if the keeper failed
 pub kept_without_fault : (result : Result ℕ KeepCommandRefusal) → keeper_faults result ≡ 0 → kept_reply result ≢ refused KeeperFault
 kept_without_fault result none = plain_differs (kept_reply result) (kept_plain result none)

@@ -1,4 +1,4 @@
--- The state of an upstream after commands.
+-- The state of an upstream after some commands, and the history that each version represents.
 use Rattle.std.proofs.Common.{◌≡◌, ℕ, List, [], ◌∷◌, ◌++◌, Bool, true, false, cond, Option, Some, None, Ok, Err, ap, refl, sym, subst, ◌∙◌, arith, append_assoc}
 use Rattle.std.specs.Prelude.{is_some, ok_or}
 use Rattle.std.proofs.lemmas.List.{append-nil}
@@ -104,7 +104,7 @@ holds_here epoch environment before command up obeyed o here holds v is =
     let this : version_after o.version o.event ≡ v = same_Some (version_after o.version o.event) v same in
     subst (IsHistoryOf epoch (before ++ command ∷ [])) this (one_more_is_history epoch before command o.version o.event (holds o.version version_is) o.event_is)
 
--- a command for another environment does not
+-- a command for another environment does not change its history
 holds_elsewhere : (epoch : ℕ) (environment : List ℕ) (before : List Command) (command : Command) (up : UpstreamState) (obeyed : AppliedCommand) → IsObeyed command up obeyed
     → same_text (environment_of command) environment ≡ false → Holds epoch environment before up → Holds epoch environment before obeyed.up
 unfolding Holds
@@ -143,11 +143,11 @@ all_added commands up epoch before are environment v is =
 pub some_added : (commands : List Command) (up after : UpstreamState) → after ≡ after_commands commands up → AreAdded (accepted commands up) up after
 some_added commands up after leads = subst (λ (u : UpstreamState). AreAdded (accepted commands up) up u) (sym leads) (all_added commands up)
 
--- commands that were all accepted are all added
+-- commands that were all accepted are all added to the histories
 pub are_added : (commands : List Command) (up after : UpstreamState) → after ≡ after_commands commands up → accepted commands up ≡ commands → AreAdded commands up after
 are_added commands up after leads all = subst (λ (cs : List Command). AreAdded cs up after) all (some_added commands up after leads)
 
--- an accepted command is added
+-- an accepted command is added to the history of its environment
 pub one_added : (command : Command) (up after : UpstreamState) (number : ℕ) → apply_command command up ≡ Ok (record { up = after; number = number })
     → AreAdded (command ∷ []) up after
 one_added command up after number is =
@@ -228,7 +228,7 @@ others_are_accepted (command ∷ commands) up = decided (apply_command command u
         ap (λ (x : CommandResult AppliedCommand). if_accepted command x (accepted (accepted commands obeyed.up) (up_after up x))) is
         ∙ ap (λ (cs : List Command). command ∷ cs) (others obeyed.up)
 
--- the accepted ones of two lists of commands in order
+-- the accepted commands of two lists in order are those of the first list, then those of the second
 pub accepted_both : (first second : List Command) (up : UpstreamState) → accepted (first ++ second) up ≡ accepted first up ++ accepted second (after_commands first up)
 accepted_both [] second up = refl
 accepted_both (command ∷ first) second up = decided (apply_command command up) (accepted_both first second)

@@ -74,7 +74,7 @@ pub text_is : (command : Command) (value : Data) (bytes : List ℕ) → value �
 unfolding command_text
 text_is command value bytes is written = written (ap has_float is ∙ no_float command) ∙ ap compact_text is
 
--- this text is read back as the command
+-- the text of a written command is read back as the same command
 pub text_back : (command : Command) (value : Data) (bytes : List ℕ) → value ≡ command_data command → (depth value ≤ max_depth → read bytes ≡ Some value)
     → IsUtf8 bytes → document command_of value ≡ Ok command → command_in bytes ≡ Ok command
 unfolding command_in

@@ -1,4 +1,5 @@
--- The reply of an upstream to a request: the first case that applies.
+-- The reply of an upstream to a request. On the route of commands, the method, the token, the body and the command are checked in this
+-- order, and the first check that fails decides the reply.
 use Rattle.std.specs.Prelude.{ℕ, List, codes, Bool, false, if◌then◌else◌, Option, Some, None, Ok, Err}
 use Rattle.std.specs.Str.{bytes_eq}
 use Rattle.serde_json.specs.Data.{object, no_members}
@@ -53,35 +54,36 @@ replied up (Err cause) = changing_nothing up (refused (refused_as cause))
 
 -- ---- all requests
 
--- the command of a body, or the reply to a bad body
-abbrev pub order_in : Reading Command → CommandOrReply
-order_in (Ok command) = Execute command
-order_in (Err fault) = Reply (refusal 400 (codes "BadBody"))
+-- the command that was read from a body, or the reply to a bad body
+abbrev pub command_or_reply_in : Reading Command → CommandOrReply
+command_or_reply_in (Ok command) = Execute command
+command_or_reply_in (Err fault) = Reply (refusal 400 (codes "BadBody"))
 
--- a command must come with the secret as its token
-abbrev pub order_with : UpstreamState → Request → Option (List ℕ) → CommandOrReply
-order_with up q None = Reply (refusal 401 (codes "NoToken"))
-order_with up q (Some token) =
-    if bytes_eq token up.secret then order_in (command_in q.body) else Reply (refusal 403 (codes "UnknownToken"))
+-- what a POST on the route of commands asks for, given its token; its body is read only if the token is the upstream's secret
+abbrev pub command_or_reply_with : UpstreamState → Request → Option (List ℕ) → CommandOrReply
+command_or_reply_with up q None = Reply (refusal 401 (codes "NoToken"))
+command_or_reply_with up q (Some token) =
+    if bytes_eq token up.secret then command_or_reply_in (command_in q.body) else Reply (refusal 403 (codes "UnknownToken"))
 
 -- what a request on the route of commands asks for: it must be a POST
-abbrev pub order_at : UpstreamState → Request → CommandOrReply
-order_at up q = if is_post q.method then order_with up q q.token else Reply (bad_method route.Commands)
+abbrev pub command_or_reply_at : UpstreamState → Request → CommandOrReply
+command_or_reply_at up q = if is_post q.method then command_or_reply_with up q q.token else Reply (bad_method route.Commands)
 
--- the route is known, and is that of commands
+-- the given route of a request's target is the route of commands; it is `None` if the target has no known route
 abbrev pub is_commands_route : Option Route → Bool
 is_commands_route None = false
 is_commands_route (Some route) = is_commands route
 
--- what a request asks for: a command, or else the reply that Edge gives from the upstream's board; a report is answered but
--- not kept
-unfoldable pub order_of : UpstreamState → Request → Draw → CommandOrReply
-order_of up q draw = if is_commands_route (route_of q.target) then order_at up q else Reply (answer_of up.board q draw).reply
+-- what a request asks for: on the route of commands a command, on all other routes the reply of `answer_of` from the
+-- upstream's board; a usage report is answered but not stored
+unfoldable pub command_or_reply_of : UpstreamState → Request → Draw → CommandOrReply
+command_or_reply_of up q draw =
+    if is_commands_route (route_of q.target) then command_or_reply_at up q else Reply (answer_of up.board q draw).reply
 
--- the feature or segment in a command is within its limits
-abbrev pub IsValidOrder : CommandOrReply → Type 0
-IsValidOrder (Execute command) = IsValidCommand command
-IsValidOrder (Reply reply) = Unit {0}
+-- if it is a command, its feature or segment is within the limits
+abbrev pub IsValidCommandOrReply : CommandOrReply → Type 0
+IsValidCommandOrReply (Execute command) = IsValidCommand command
+IsValidCommandOrReply (Reply reply) = Unit {0}
 
 -- the reply to what a request asks for, and the upstream after it
 abbrev pub done : UpstreamState → CommandOrReply → Answered
@@ -90,4 +92,4 @@ done up (Reply reply) = changing_nothing up reply
 
 -- the reply to a request, and the upstream after it
 unfoldable pub upstream_answer : UpstreamState → Request → Draw → Answered
-upstream_answer up q draw = done up (order_of up q draw)
+upstream_answer up q draw = done up (command_or_reply_of up q draw)

@@ -19,14 +19,14 @@ environment_of (RemoveFeature environment name) = environment
 environment_of (PutSegment environment segment) = environment
 environment_of (RemoveSegment environment id) = environment
 
--- the feature or segment in a command is within its limits
+-- the feature or segment in the command, if it has one, is within the limits
 abbrev pub IsValidCommand : Command → Type 0
 IsValidCommand (PutFeature environment feature) = IsValidFeature feature
 IsValidCommand (RemoveFeature environment name) = Unit {0}
 IsValidCommand (PutSegment environment segment) = IsValidSegment segment
 IsValidCommand (RemoveSegment environment id) = Unit {0}
 
--- ---- reading
+-- ---- reading a command from a JSON object
 
 -- `put-feature`: the environment and the feature
 unfoldable pub put_feature_of : Data → Reading Command
@@ -56,7 +56,7 @@ remove_segment_of value = do
   id ← required any_whole field.Id value
   Ok (RemoveSegment environment id)
 
--- the command with this command word
+-- reads the command whose `command` key has the value `word`
 unfoldable pub command_by : List ℕ → Data → Reading Command
 command_by word value =
     if bytes_eq word (codes "put-feature") then put_feature_of value else (
@@ -71,7 +71,7 @@ command_of value = do
   word ← required any_text field.Command value
   command_by word value
 
--- reads a command from the JSON bytes of a body or of a line
+-- reads a command from the JSON bytes of a request body, of a kept row, or of a line of input
 unfoldable pub command_in : List ℕ → Reading Command
 command_in bytes = do
   value ← ok_or (json_of bytes) NotJson

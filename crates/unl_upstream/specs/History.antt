@@ -28,12 +28,12 @@ abbrev pub after_commands : List Command → UpstreamState → UpstreamState
 after_commands [] up = up
 after_commands (command ∷ commands) up = after_commands commands (after_command command up)
 
--- the other commands, preceded by this one if it was accepted
+-- these commands, preceded by `command` if it was accepted
 abbrev pub if_accepted : Command → CommandResult AppliedCommand → List Command → List Command
 if_accepted command (Ok obeyed) commands = command ∷ commands
 if_accepted command (Err refusal) commands = commands
 
--- those commands that are accepted when all are applied in order
+-- the commands that are accepted when all of them are applied in order; the refused ones are left out
 abbrev pub accepted : List Command → UpstreamState → List Command
 accepted [] up = []
 accepted (command ∷ commands) up = if_accepted command (apply_command command up) (accepted commands (after_command command up))
@@ -44,7 +44,7 @@ for_environment environment commands = filter (λ command. same_text (environmen
 
 -- ---- their history
 
--- the event of a command at a number; a removal has the project of the removed feature
+-- the event of a command, with the number `n`; the event of a removed feature has the project that the feature has in `s`
 abbrev pub event_at : ℕ → State → Command → Event
 event_at n s (PutFeature environment feature) = FeatureUpdated n feature
 event_at n s (RemoveFeature environment name) = FeatureRemoved n name (unwrap_or (project_of name s.features) [])
@@ -73,7 +73,8 @@ abbrev pub AreHistories : ℕ → List Command → UpstreamState → Type 0
 AreHistories epoch commands up = (environment : List ℕ) (v : EnvVersion) → snapshot_in environment up.board.slots ≡ Some v
     → IsHistoryOf epoch (for_environment environment commands) v
 
--- if the versions represented the histories of some commands before, they represent those of these commands and `more` after
+-- if the versions of `up` represent the histories of some commands, then the versions of `after` represent the histories of
+-- these commands followed by `more`
 abbrev pub AreAdded : List Command → UpstreamState → UpstreamState → Type 0
 AreAdded more up after = (epoch : ℕ) (commands : List Command) → AreHistories epoch commands up
     → AreHistories epoch (commands ++ more) after

@@ -1,4 +1,6 @@
--- The commands kept by an upstream's keeper, and the effect of keeping one more.
+-- The commands kept by an upstream's keeper, and the effect of keeping one more. The keeper is an append-only store with the text of one
+-- command in each row. A row is kept if its put succeeded, or if it existed when the keeper was opened. The rows are `None` in
+-- contracts if the keeper's store is not observable.
 use Rattle.std.specs.Prelude.{◌≡◌, ◌≤◌, ◌⊎◌, ℕ, ◌+◌, ◌-◌, ◌^◌, min, nat_lt, List, [], ◌∷◌, ◌++◌}
 use Rattle.std.specs.Prelude.{drop, filter_map, length, map}
 use Rattle.std.specs.Prelude.{if◌then◌else◌, Option, option_map, Result, Ok, Err, IsOk, IfSome, ⊤}
@@ -28,7 +30,7 @@ kept_state up keeper = record { up = up; keeper = keeper }
 
 -- ---- the kept commands
 
--- the commands that the texts are read as, in order; texts that are no command are left out
+-- the commands parsed from the texts, in order, without the texts that are no command
 abbrev pub commands_in : List (List ℕ) → List Command
 commands_in texts = filter_map (λ text. if_read (command_in text)) texts
 
@@ -52,7 +54,7 @@ IsAfterKept opening state = IfSome (kept_rows state.keeper) (λ texts. ResultIn 
 abbrev pub most_rows : ℕ
 most_rows = 10000000
 
--- the result of a command, or that a keeper with `count` rows is full
+-- The result of a command, for a keeper with `count` rows: if the command is accepted but the keeper is full, it is `KeeperFull`.
 abbrev pub with_room : {T : Type 0} → ℕ → CommandResult T → Result T KeepCommandRefusal
 with_room count (Ok x) = if nat_lt count most_rows then Ok x else Err (KeeperFull count)
 with_room count (Err cause) = Err (refused_as cause)
@@ -61,7 +63,7 @@ with_room count (Err cause) = Err (refused_as cause)
 abbrev pub keepable : Command → KeptState → Result AppliedCommand KeepCommandRefusal
 keepable command state = with_room state.keeper.count (apply_command command state.up)
 
--- a command is ready to be put: it is accepted, there is room for it, and its text is read back as it
+-- a command is ready to be stored: it is accepted, the keeper has room, and reading its text gives the same command
 pub record IsPending (command : Command) (before : KeptState) (ready : Prepared) (text : List ℕ) : Type 0 where
   pub accepts : with_room before.keeper.count (prepared command before.up) ≡ Ok ready
   pub text_is : text ≡ command_text command
@@ -125,7 +127,7 @@ AttemptsInOrder [] before after = after ≡ before
 AttemptsInOrder (one ∷ others) before after =
     (middle : KeptState) × KeepsCommand one.command before one.result middle × AttemptsInOrder others middle after
 
--- the other commands, preceded by this one if it was acknowledged
+-- the other commands, preceded by `command` if it was acknowledged
 abbrev pub if_kept : Command → Result ℕ KeepCommandRefusal → List Command → List Command
 if_kept command (Ok number) others = command ∷ others
 if_kept command (Err refusal) others = others
@@ -162,7 +164,7 @@ failed_by failed command (Err (KeeperFull count)) = failed
 failed_by failed command (Err KeeperFault) = command ∷ failed
 failed_by failed command (Err Memory) = failed
 
--- the same after these attempts in order
+-- the commands whose put failed since the last successful put, after these attempts in order
 abbrev pub failed_after : List Command → List KeepAttempt → List Command
 failed_after failed [] = failed
 failed_after failed (one ∷ others) = failed_after (failed_by failed one.command one.result) others
@@ -178,67 +180,68 @@ abbrev pub IsOneOf : Command → List Command → Type 0
 IsOneOf command [] = ⊥
 IsOneOf command (other ∷ others) = (other ≡ command) ⊎ IsOneOf command others
 
--- the text is of a command that the upstream accepts and that is in the list
+-- the text is that of a command that the upstream accepts, and the command is one of the failed ones
 pub record IsLeft (up : UpstreamState) (failed : List Command) (text : List ℕ) : Type 0 where
   pub command : Command
   pub spelled : command_in text ≡ Ok command
   pub accepts : IsOk (apply_command command up)
   pub one : IsOneOf command failed
 
--- there is no text, or one text of a command that the upstream accepts and that is in the list
+-- there is no text, or one text: that of a command that the upstream accepts and that is one of the failed ones
 abbrev pub AreLeft : UpstreamState → List Command → List (List ℕ) → Type 0
 AreLeft up failed [] = ⊤
 AreLeft up failed (text ∷ []) = IsLeft up failed text
 AreLeft up failed (text ∷ other ∷ texts) = ⊥
 
--- at most one row follows the kept ones; it is of a command that the upstream accepts and whose put is one of the failed ones
+-- at most one row follows the kept ones: that of a command that the upstream accepts and whose put failed
 abbrev pub LeavesOne : KeptState → List Command → Type 0
 LeavesOne state failed = IfSome (past_rows state.keeper) (AreLeft state.up failed)
 
--- ---- what each call carries
+-- ---- what attempts to keep commands preserve and change
 
 -- a fault count rose by at least `n`, or is at its maximum, 2^64 - 1
 abbrev pub RoseBy : ℕ → ℕ → ℕ → Type 0
 RoseBy n before now = min (before + n) (2 ^ 64 - 1) ≤ now
 
--- the acknowledged commands alone changed the upstream, all are accepted, its versions now represent them too, and the keeper
--- counts them
+-- Only the acknowledged commands changed the upstream, and all of them are accepted. If the upstream's versions represented the histories
+-- of some commands, they now represent those of the same commands followed by the acknowledged ones. The keeper counts one more row
+-- for each acknowledged command.
 pub record Moves (tried : List KeepAttempt) (before after : KeptState) : Type 0 where
   pub leads : after.up ≡ after_commands (acknowledged tried) before.up
   pub all_accepted : accepted (acknowledged tried) before.up ≡ acknowledged tried
   pub versions : AreAdded (acknowledged tried) before.up after.up
   pub counted : after.keeper.count ≡ before.keeper.count + length (acknowledged tried)
 
--- What held for an upstream and its keeper still holds after these attempts.
+-- The properties of an upstream and its keeper that attempts to keep commands preserve, and what the attempts change.
 pub record Carries (tried : List KeepAttempt) (before after : KeptState) : Type 0 where
   -- the upstream is still the initial one after the kept commands in order
   pub represents : (opening : UpstreamState) → IsAfterKept opening before → IsAfterKept opening after
-  -- exactly the acknowledged commands changed it, and follow the earlier kept commands
+  -- only the acknowledged commands changed the upstream, and they follow the earlier kept commands
   pub moves : Moves tried before after
   pub appended : kept_commands after.keeper ≡ option_map (λ commands. commands ++ acknowledged tried) (kept_commands before.keeper)
-  -- after the kept rows there is no row, or the text of one command that the upstream accepts; if it differs from before, it
-  -- is of a command whose put failed with no successful put since
+  -- at most one row follows the kept rows: that of a command that the upstream accepts and whose put failed, with no successful
+  -- put since
   pub left : (failed : List Command) → LeavesOne before failed → LeavesOne after (failed_after failed tried)
   -- the fault count rose by at least the number of commands not kept because the keeper failed
   pub faults : RoseBy (faults_among tried) before.keeper.faults after.keeper.faults
 
--- some attempts to keep commands were made in order, and nothing else changed the upstream and its keeper
+-- attempts to keep some commands were made in order, and nothing else changed the upstream and its keeper
 pub record SomeAttempts (before after : KeptState) : Type 0 where
   pub tried : List KeepAttempt
   pub keeps : AttemptsInOrder tried before after
 
--- the same, and what held for the upstream and its keeper still holds
+-- some attempts were made in order, and they preserve the properties in `Carries`
 pub record AttemptsPreserve (before after : KeptState) : Type 0 where
   pub some : SomeAttempts before after
   pub carries : Carries some.tried before after
 
--- any attempts to keep commands, with any faults, preserve what held for an upstream and its keeper
+-- any attempts to keep commands, with any faults of the keeper, preserve the properties in `Carries`
 abbrev pub KeepingCarries : Type 0
 KeepingCarries =
     (tried : List KeepAttempt) (before after : KeptState) → HasKept before.keeper → AttemptsInOrder tried before after
     → Carries tried before after
 
--- attempts after other attempts are attempts too
+-- attempts made in order, and then others made in order from the state after the first ones, are together made in order
 abbrev pub KeepingContinues : Type 0
 KeepingContinues =
     (first second : List KeepAttempt) (before middle after : KeptState) → AttemptsInOrder first before middle

@@ -1,5 +1,6 @@
--- The links of a door, served one after another by an upstream that keeps its commands. What is not observable of a door, of
--- its links or of draws is `None`.
+-- The links (connections) that a door accepts, served one after another by an upstream that stores its commands in a keeper. A
+-- contract may say nothing about the links of a door or about the upcoming draws (times and random words): these are then not
+-- observable, and their value here is `None`.
 use Rattle.std.specs.Prelude.{◌≡◌, ℕ, ◌+◌, ◌⊎◌, List, [], ◌∷◌, ◌++◌, length, Result, ⊤}
 use Rattle.unl_base.specs.declared.Failed.{Failed}
 use Rattle.unl_server.specs.Handling.{Coming}
@@ -17,18 +18,20 @@ use Rattle.unl_upstream.specs.Served.{draws_after}
 use Rattle.unl_upstream.specs.Served.{ServesAllLinksBy, LinkServedBy}
 use Rattle.unl_upstream.specs.Upstream.{UpstreamState}
 
--- A link that gave these bytes was served; the pair is what it had sent, and its fault count. A number of its requests were
--- answered, each with the next draw. Attempts to keep their commands are all that changed the upstream and its keeper.
+-- A link on which these bytes were received was served. The pair is the bytes that were sent on it, and its fault count. Some of
+-- its requests, from the first on, were answered, each with the next draw. The upstream and its keeper were changed only by attempts
+-- to keep (apply and store) the commands of these requests.
 abbrev pub LinkServed : KeptState → Coming → List ℕ → List ℕ × ℕ → KeptState → Coming → Type 0
 LinkServed = LinkServedBy ServesKeptRequest KeptServingRunsOut ServesKept
 
 -- ---- links one after another
 
--- from every state from which attempts to keep commands lead to `before`, attempts also lead to `after`
+-- if some attempts to keep commands lead from a state to `before`, then some attempts lead from that state to `after`
 abbrev pub ExtendsAttempts : KeptState → KeptState → Type 0
 ExtendsAttempts before after = (start : KeptState) → SomeAttempts start before → SomeAttempts start after
 
--- Links that gave these bytes were served one after another; the pairs are what each had sent, and its fault count.
+-- Links on which these bytes were received were served one after another. The pairs are the bytes sent on each, and its fault
+-- count.
 abbrev pub Linked : KeptState → Coming → List (List ℕ) → List (List ℕ × ℕ) → KeptState → Coming → Type 0
 Linked = LinkedBy LinkServed
 
@@ -36,7 +39,7 @@ Linked = LinkedBy LinkServed
 abbrev pub KeptLinking : Type 0
 KeptLinking = Linking KeptState
 
--- This number of links were handed out, and as many returned. If the door's links are observable, each was served.
+-- The door gave out this number of links, and all were given back to it. If the door's links are observable, each was served.
 abbrev pub ServesKeptLinks : KeptLinking → KeptLinking → ℕ → Type 0
 ServesKeptLinks = HandsBack LinkServed
 
@@ -52,8 +55,9 @@ pub record IsNamed (start : UpstreamState) (reopened : ℕ) (commands : List Com
   pub up : state.up ≡ after_commands commands start
   pub count : state.keeper.count ≡ reopened + length commands
 
--- A link was served. `requests` are its first requests, as many as were answered. `commands` are those of their commands that
--- were accepted and kept. One draw was taken for each answered request, and perhaps one more if memory ran out.
+-- A link was served. `requests` are the answered requests, which are the first ones in `bytes`. `commands` are the commands of
+-- these requests that were accepted and kept. One draw was taken for each answered request, and perhaps one more if memory ran
+-- out.
 pub record LinkEffect
     (before : KeptState) (coming : Coming) (bytes : List ℕ) (back : List ℕ × ℕ) (commands : List Command) (taken : ℕ)
     (after : KeptState) (coming_after : Coming) : Type 0 where
@@ -94,8 +98,8 @@ NoKeeperFaults start reopened coming commands drawn state (bytes ∷ links) (bac
     NoKeeperFault 0 (kept_serving_state state 0 (draws_after drawn coming)) names.requests names.text names.reached names.answered
     × NoKeeperFaults start reopened coming (commands ++ more) (drawn + taken) middle links backs commands_after drawn_after after others
 
--- Links were served, and the state after them is described by commands and draws from `start` on. Attempts to keep the
--- commands of all their requests, in order, are all that changed the upstream and its keeper. If the keeper failed at none of
+-- Links were served, and the state after them is described by the kept commands and the draws taken since `start`. Nothing but
+-- attempts to keep the commands of their requests, in order, changed the upstream and its keeper. If the keeper failed at none of
 -- them, no reply is 503 `KeeperFault`.
 pub record AllLinksEffect
     (start : UpstreamState) (reopened : ℕ) (coming : Coming) (commands : List Command) (drawn : ℕ) (state : KeptState)
@@ -111,7 +115,7 @@ pub record AllLinksEffect
   pub no_faults : faults_among tried ≡ 0
       → NoKeeperFaults start reopened coming commands drawn state links backs commands_after drawn_after after linked
 
--- the state after served links is always described in this way
+-- if links are served from a state that is described by commands and draws, `AllLinksEffect` holds for them
 abbrev pub KeptLinksNameCommands : Type 0
 KeptLinksNameCommands = (start : UpstreamState) (reopened : ℕ) (coming : Coming) (commands : List Command) (drawn : ℕ) (state : KeptState)
     (links : List (List ℕ)) (backs : List (List ℕ × ℕ)) (after : KeptState) (coming_after : Coming)

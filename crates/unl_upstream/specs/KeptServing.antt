@@ -1,4 +1,5 @@
--- An upstream that keeps its commands, on a connection.
+-- How an upstream that keeps its commands answers one request, and serves a connection. To keep a command is to store it with
+-- the keeper and then publish it.
 use Rattle.std.specs.Prelude.{◌≡◌, ◌≢◌, ℕ, ◌+◌, List, [], ◌∷◌, ◌++◌, Option, Some, None, Result, Ok, Err, ⊤}
 use Rattle.unl_base.specs.declared.draws.Draw.{Draw}
 use Rattle.unl_server.specs.Handling.{HandlerState, HandlesRequest, Coming, RunsOutOfMemory, handler_state}
@@ -19,18 +20,18 @@ use Rattle.unl_upstream.specs.Served.{ServesLinkBy}
 
 -- ---- an upstream and its keeper, behind references
 
--- their state, given the ghost function that reads a keeper's state
+-- the state of the upstream and the keeper behind the references; `state` is the ghost function that reads a keeper's state
 abbrev pub kept_in : {K : Type 0} → (K → KeeperState) → DurableUpstream K → KeptState
 kept_in state server = kept_state server.up.now (state server.keeper.now)
 
 -- ---- one request
 
--- the reply to a command with this result of keeping it
+-- the reply to a command, by the result of keeping it
 abbrev pub kept_reply : Result ℕ KeepCommandRefusal → Reply
 kept_reply (Ok number) = numbered number
 kept_reply (Err refusal) = refused refusal
 
--- an attempt was made to keep a command, and the reply states its result
+-- An attempt was made to keep a command, and the reply states its result. Memory didn't run out.
 pub record RepliesTo (command : Command) (before : KeptState) (reply : Reply) (after : KeptState) : Type 0 where
   pub result : Result ℕ KeepCommandRefusal
   pub keeps : KeepsCommand command before result after
@@ -56,8 +57,9 @@ abbrev pub tried_of : (given : Option Command) (before : KeptState) (q : Request
 tried_of None before q draw reply after by_command = []
 tried_of (Some command) before q draw reply after by_command = record { command = command; result = by_command.result } ∷ []
 
--- A request is answered, and what held for the upstream and its keeper still holds. Unless the keeper failed at its command,
--- the reply is not 503 `KeeperFault`.
+-- A request is answered, and the attempt to keep its command changes the upstream and the keeper only as `Carries` states: among
+-- others, the upstream is still its initial state after the kept commands, in order. Unless the keeper failed at this attempt, the
+-- reply is not 503 `KeeperFault`.
 pub record CarriesAnswer (before : KeptState) (q : Request) (draw : Draw) (reply : Reply) (after : KeptState) : Type 0 where
   pub gives : AnswersByKeeping before q draw reply after
   pub tried : List KeepAttempt
@@ -71,7 +73,7 @@ pub record CarriesAnswer (before : KeptState) (q : Request) (draw : Draw) (reply
 abbrev pub KeptServing : Type 0
 KeptServing = HandlerState KeptState
 
--- these three as one record
+-- an upstream with its keeper, a number of answered requests, and upcoming draws as one record
 abbrev pub kept_serving_state : KeptState → ℕ → Coming → KeptServing
 kept_serving_state state count coming = handler_state state count coming
 
@@ -79,7 +81,7 @@ kept_serving_state state count coming = handler_state state count coming
 abbrev pub ServesKeptRequest : KeptServing → Request → Reply → KeptServing → Type 0
 ServesKeptRequest = HandlesRequest AnswersByKeeping
 
--- a draw was taken, and then memory ran out
+-- a draw was taken for a request, and then memory ran out
 abbrev pub KeptServingRunsOut : KeptServing → Request → KeptServing → Type 0
 KeptServingRunsOut = RunsOutOfMemory KeptStateUnchanged
 
@@ -98,8 +100,8 @@ NoKeeperFault count before [] text after answered = ⊤
 NoKeeperFault count before (q ∷ qs) text after (reply, middle, more, step, split, rest) =
     (reply ≢ refused KeeperFault) × NoKeeperFault (count + 1) middle qs more after rest
 
--- In every case `count` requests were answered in order, and attempts to keep their commands are all that changed the
--- upstream and its keeper. If the keeper failed at none of them, no reply is 503 `KeeperFault`.
+-- However the connection ended, `count` requests were answered in order, and nothing but attempts to keep their commands
+-- changed the upstream and its keeper. If the keeper failed at none of these attempts, no reply is 503 `KeeperFault`.
 pub record ServesKept (before : KeptServing) (end : End) (count : ℕ) (after : KeptServing) : Type 0 where
   pub reaches : Reaches ServesKeptRequest KeptServingRunsOut before end after count
   pub tried : List KeepAttempt
@@ -108,6 +110,6 @@ pub record ServesKept (before : KeptServing) (end : End) (count : ℕ) (after : 
   pub carries : Carries tried before.state after.state
   pub no_faults : faults_among tried ≡ 0 → NoKeeperFault 0 before reaches.requests reaches.text reaches.reached reaches.answered
 
--- a link was served
+-- a link was served by an upstream that keeps its commands
 abbrev pub ServesLink : KeptState → Coming → LinkView → LinkView → KeptState → Coming → Type 0
 ServesLink = ServesLinkBy ServesKeptRequest KeptServingRunsOut ServesKept

@@ -9,7 +9,7 @@ use Rattle.unl_upstream.specs.declared.command.Command.{Command}
 use Rattle.unl_upstream.specs.Upstream.{opening}
 use Rattle.unl_upstream.specs.History.{AreHistories, IsHistoryOf, accepted, after_commands, history_of}
 
--- the line of histories of an upstream that began in this epoch: the one history that these commands make
+-- the line (a list of histories, one per epoch) of an upstream with this epoch: only the history of these commands
 abbrev pub line_of : ℕ → List Command → List Era
 line_of epoch commands = record { epoch = epoch; history = history_of commands } ∷ []
 
@@ -20,12 +20,12 @@ VersionsMatchHistory =
     → AreHistories epoch (accepted commands (opening boot secret environments book epoch))
     (after_commands commands (opening boot secret environments book epoch))
 
--- a version that represents such a history belongs to that line, for a client that sees all projects
+-- a version that represents the history of some commands also represents their line, for a client that sees all projects
 abbrev pub VersionsBelongToLines : Type 0
 VersionsBelongToLines = (epoch : ℕ) (commands : List Command) (v : EnvVersion) → IsHistoryOf epoch commands v
     → IsLine (line_of epoch commands) × RepresentsLine (line_of epoch commands) everything v
 
--- an environment has a version exactly if the upstream began with it
+-- an environment has a version exactly if the upstream was created with this environment
 abbrev pub EnvironmentsStay : Type 0
 EnvironmentsStay =
     (boot : ℕ) (secret : List ℕ) (environments : List (List ℕ)) (book : List Token) (epoch : ℕ) (commands : List Command)

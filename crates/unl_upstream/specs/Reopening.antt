@@ -14,7 +14,7 @@ use Rattle.unl_upstream.specs.Command.{command_in}
 use Rattle.unl_upstream.specs.Kept.{IsAfterKept, IsOneOf, KeptState, LeavesOne, kept_commands, kept_state}
 use Rattle.unl_upstream.specs.Upstream.{AppliedCommand, CommandResult, UpstreamState, apply_command, opening}
 
--- it is an initial upstream, which has applied no command
+-- the upstream is in its initial state: it has applied no command
 abbrev pub IsOpening : UpstreamState → Type 0
 IsOpening up = (boot : ℕ) × (secret : List ℕ) × (environments : List (List ℕ)) × (book : List Token) × (epoch : ℕ)
     × (up ≡ opening boot secret environments book epoch)
@@ -26,7 +26,7 @@ abbrev pub if_obeyed : CommandResult AppliedCommand → Option UpstreamState
 if_obeyed (Ok obeyed) = Some obeyed.up
 if_obeyed (Err cause) = None
 
--- the upstream after the command that a text is read as, if it is one and is accepted
+-- the upstream after the command that was read from a text; `None` if there was none, or the command is refused
 abbrev pub after_reading : UpstreamState → Reading Command → Option UpstreamState
 after_reading up (Ok command) = if_obeyed (apply_command command up)
 after_reading up (Err fault) = None
@@ -54,7 +54,7 @@ WhyRowFails before keeper keeper_after up (NoRow place) = (place ≡ before + 1)
 WhyRowFails before keeper keeper_after up Fault = Rose keeper.faults keeper_after.faults
 WhyRowFails before keeper keeper_after up Memory = ⊤
 
--- the fault that a refusal of the keeper becomes on reopening
+-- converts an error of the keeper to an error of reopening
 abbrev pub reopen_fault_of : KeepRefusal → ReopenFault
 reopen_fault_of put_refusal.Fault = Fault
 reopen_fault_of put_refusal.Memory = Memory
@@ -84,7 +84,7 @@ pub record Reopened (before : KeptState) (count : ℕ) (after : KeptState) : Typ
   pub represents : IsAfterKept before.up after
   pub left : LeavesOne after []
 
--- the rows before row `place` were applied, and `At` holds for their number
+-- the rows before row `place` were applied, and `At` holds for the count of these rows
 abbrev pub AppliesRowsBefore : KeptState → ℕ → KeptState → (ℕ → Type 0) → Type 0
 AppliesRowsBefore before place after At = (count : ℕ) × (place ≡ count + 1) × (place ≤ after.keeper.count)
     × Applies before.up after.keeper.rows count after.up × At count
@@ -99,7 +99,7 @@ Reopens before (Err Fault) after =
     Rose before.keeper.faults after.keeper.faults × (count : ℕ) × Applies before.up after.keeper.rows count after.up
 Reopens before (Err Memory) after = (count : ℕ) × Applies before.up after.keeper.rows count after.up
 
--- ---- reopening what was kept
+-- ---- reopening restores the kept commands
 
 -- the list is empty, or has one command, which is among the failed ones
 abbrev pub IsAtMostOne : List Command → List Command → Type 0
@@ -119,7 +119,8 @@ pub record GivesBack
   pub represents : IsAfterKept fresh reopened
 
 -- If an upstream is the initial one after the kept commands, and at most one row of a failed put follows them, then reopening
--- the keeper with an initial upstream of the same slots restores these.
+-- the keeper with an initial upstream of the same slots restores the kept commands, and perhaps that of the failed put. This
+-- holds unless the keeper fails or memory runs out.
 abbrev pub ReopeningGivesBack : Type 0
 ReopeningGivesBack = (opening fresh : UpstreamState) (before reopened : KeptState) (keeper : KeeperState) (failed : List Command)
     (rows : List (List ℕ)) (result : Result ℕ ReopenFault) → fresh.board.slots ≡ opening.board.slots

@@ -13,11 +13,11 @@ abbrev pub if_read : Reading Command → Option Command
 if_read (Ok command) = Some command
 if_read (Err fault) = None
 
--- the command of a body, if the request shows the secret
+-- the command in the body, if the token is the secret
 abbrev pub shown_with : List ℕ → Request → Option (List ℕ) → Option Command
 shown_with secret q None = None
 shown_with secret q (Some token) = if bytes_eq token secret then if_read (command_in q.body) else None
 
--- the command that a request gives, if any
+-- the command that a request gives, if any: it must be a POST on the route of commands with the secret as its token
 abbrev pub command_given : List ℕ → Request → Option Command
 command_given secret q = if is_commands_route (route_of q.target) && is_post q.method then shown_with secret q q.token else None

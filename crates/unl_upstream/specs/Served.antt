@@ -1,4 +1,4 @@
--- Served links, for any request handler.
+-- How a link (a connection) and all links of a door (a listener) are served, for any request handler.
 use Rattle.std.specs.Prelude.{◌≡◌, ℕ, List, [], Option, Some, Result, Ok, Err, drop, option_map}
 use Rattle.unl_base.specs.Faults.{Rose}
 use Rattle.unl_base.specs.declared.Failed.{Failed}
@@ -11,23 +11,24 @@ use Rattle.unl_http_api.specs.declared.end.End.TheVariants.{ReadFault, WriteFaul
 use Rattle.unl_http_api.specs.declared.reply.Reply.{Reply}
 use Rattle.unl_http_api.specs.declared.request.Request.{Request}
 
--- the draws to come after `drawn` of them were taken; where the draws are not observable, neither are these
+-- the upcoming draws after `drawn` of them were taken; `None` if the draws are not observable
 abbrev pub draws_after : ℕ → Coming → Coming
 draws_after drawn coming = option_map (λ draws. (drop drawn draws.0, draws.1)) coming
 
--- what relates a request handler before a request, the request, its reply, and the handler after it
+-- the type of a relation between a handler's state before a request, the request, its reply, and the state after it
 abbrev pub Steps : Type 0 → Type 1
 Steps S = HandlerState S → Request → Reply → HandlerState S → Type 0
 
--- what relates a request handler before and after a request at which memory ran out
+-- the type of a relation between a handler's state before a request, the request at which memory ran out, and the state after
 abbrev pub RunsOut : Type 0 → Type 1
 RunsOut S = HandlerState S → Request → HandlerState S → Type 0
 
--- what relates a request handler before and after a number of answers, by how the connection ended
+-- the type of a relation between a handler's state before a connection, how the connection ended, the number of answered
+-- requests, and the state after it
 abbrev pub Changing : Type 0 → Type 1
 Changing S = HandlerState S → End → ℕ → HandlerState S → Type 0
 
--- a link was served: `count` of its requests were answered, with these changes
+-- a link was served: `count` of its requests were answered, and `Changes` relates the handler's states before and after
 pub record ServesLinkBy
     {S : Type 0} (Step : Steps S) (RunsOutAtRequest : RunsOut S) (Changes : Changing S) (before : S) (coming : Coming)
     (link link_after : LinkView) (after : S) (coming_after : Coming) : Type 0 where
@@ -37,8 +38,8 @@ pub record ServesLinkBy
       link_after
   pub changes : Changes (handler_state before 0 coming) end count (handler_state after count coming_after)
 
--- A link that gave these bytes was served; `back` is what it had sent, and its fault count. `count` of its requests were
--- answered, each with the next draw, with these changes.
+-- A link was served. `bytes` were received on it; `back` is the bytes that were sent on it, and its fault count. `count` of its
+-- requests were answered, each with the next draw, and `Changes` relates the handler's states before and after.
 pub record LinkServedBy
     {S : Type 0} (Step : Steps S) (RunsOutAtRequest : RunsOut S) (Changes : Changing S) (before : S) (coming : Coming)
     (bytes : List ℕ) (back : List ℕ × ℕ) (after : S) (coming_after : Coming) : Type 0 where
@@ -54,8 +55,8 @@ pub record LinkServedBy
   pub read_cause : end ≡ ReadFault → Rose 0 back.1
   pub write_cause : end ≡ WriteFault → Rose 0 back.1
 
--- On success the returned number of links were handed out, and as many returned; if the door failed, some number of them.
--- If the door's links are observable, each was served as `LinkServed` says.
+-- On success, the door handed out the returned number of links, and all of them were returned to it. If the door failed, the
+-- same holds for some number of links. If the door's links are observable, `LinkServed` holds for each of them.
 abbrev pub ServesAllLinksBy :
     {S : Type 0} → (S → Coming → List ℕ → List ℕ × ℕ → S → Coming → Type 0) → Result ℕ Failed → Linking S → Linking S → Type 0
 ServesAllLinksBy LinkServed (Ok served) before after = HandsBack LinkServed before after served

@@ -12,7 +12,7 @@ use Rattle.unl_upstream.specs.Upstream.{UpstreamState}
 
 -- ---- one request
 
--- a request is answered with this reply, which leaves this upstream
+-- the request is answered with the reply `given`, and the upstream is `up_after` afterwards
 abbrev pub AnswersRequest : UpstreamState → Request → Draw → Reply → UpstreamState → Type 0
 AnswersRequest up q draw given up_after = upstream_answer up q draw ≡ record { reply = given; up = up_after }
 
@@ -24,7 +24,7 @@ UpstreamUnchanged up q draw up_after = up_after ≡ up
 abbrev pub Serving : Type 0
 Serving = HandlerState UpstreamState
 
--- these three as one record
+-- an upstream, a number of answered requests, and upcoming draws as one record
 abbrev pub serving_state : UpstreamState → ℕ → Coming → Serving
 serving_state up count coming = handler_state up count coming
 
@@ -32,7 +32,7 @@ serving_state up count coming = handler_state up count coming
 abbrev pub ServesRequest : Serving → Request → Reply → Serving → Type 0
 ServesRequest = HandlesRequest AnswersRequest
 
--- a draw was taken, and then memory ran out
+-- a draw was taken for a request, and then memory ran out
 abbrev pub ServingRunsOut : Serving → Request → Serving → Type 0
 ServingRunsOut = RunsOutOfMemory UpstreamUnchanged
 
@@ -43,8 +43,8 @@ abbrev pub commands_given : List ℕ → List Request → List Command
 commands_given secret [] = []
 commands_given secret (q ∷ qs) = option_to_list (command_given secret q) ++ commands_given secret qs
 
--- `count` requests were answered, and their commands are all that changed the upstream. Its versions now represent those too
--- that were accepted.
+-- `count` requests were answered, and nothing but their commands changed the upstream. If its versions were the result of a list of
+-- commands, they are now the result of this list followed by the accepted commands of the requests.
 pub record ObeysRequests (up : UpstreamState) (count : ℕ) (up_after : UpstreamState) : Type 0 where
   pub requests : List Request
   pub counted : length requests ≡ count

@@ -1,4 +1,5 @@
--- An upstream: its initial state, and the effect of each command. The limits and the refusals are chosen by this project.
+-- An upstream, the server that holds the features and segments of a few environments: its initial state, and the effect of each command.
+-- The limits and the refusals are chosen by this project.
 use Rattle.std.specs.Prelude.{◌≡◌, true, false, ℕ, ◌+◌, ◌-◌, ◌^◌, ◌==◌, ◌||◌, nat_lt, List, [], ◌∷◌, length, map, Bool, if◌then◌else◌}
 use Rattle.std.specs.Prelude.{All, Some, is_some, ok_or, Result, Ok, Err}
 use Rattle.std.specs.List.{list_any}
@@ -32,7 +33,7 @@ pub record UpstreamState : Type 0 where
   pub board : Board
   pub secret : List ℕ
 
--- the environments of the slots have names within the limits
+-- the names of the slots' environments are within the limits of names
 abbrev pub AreNamed : List Slot → Type 0
 AreNamed slots = All IsName (names_of slots)
 
@@ -42,7 +43,7 @@ AreNamed slots = All IsName (names_of slots)
 abbrev pub opening_slot : ℕ → List ℕ → Slot
 opening_slot epoch environment = record { environment = environment; snapshot = Some (empty_at epoch) }
 
--- the initial board: these environments, an empty host, and the book published once
+-- the initial board: one slot for each of these environments, an empty host, and this book of tokens, which is the first publication
 abbrev pub opening_board : ℕ → List (List ℕ) → List Token → ℕ → Board
 opening_board boot environments book epoch =
     with_tokens book (record { boot = boot; host = []; generation = 0; book = []; slots = map (opening_slot epoch) environments })
@@ -81,11 +82,11 @@ has_feature name features = is_some (project_of name features)
 abbrev pub has_segment : ℕ → List Segment → Bool
 has_segment id segments = list_any (λ segment. segment.id == id) segments
 
--- there is room if the item exists already, or the count is below the maximum
+-- succeeds if the item exists already, or the count is below the maximum; otherwise `TooMany`
 abbrev pub room_for : Bool → ℕ → ℕ → CommandResult (Unit {0})
 room_for represents most count = if represents || nat_lt count most then Ok tt else Err (TooMany count)
 
--- the item to remove must exist
+-- succeeds if the item to remove exists; otherwise it is refused with this refusal
 abbrev pub found : Bool → CommandRefusal → CommandResult (Unit {0})
 found represents refusal = if represents then Ok tt else Err refusal
 
@@ -136,7 +137,7 @@ pub record IsNext (v : EnvVersion) (event : Event) : Type 0 where
 
 -- ---- the effect of a command on an upstream
 
--- a place with this version, not held
+-- a slot's place that has this version and accepts any next batch (it does not wait for a hydration)
 abbrev pub place_with : EnvVersion → Place
 place_with v = record { version = Some v; held = false }
 
@@ -178,7 +179,7 @@ apply_command command up = do
   ready ← prepared command up
   Ok (record { up = committed ready up; number = ready.number })
 
--- the refusal of a command, as that of a command to be kept
+-- Converts a refusal to the error type of `keep`, which stores a command with a keeper before the command is applied.
 abbrev pub refused_as : CommandRefusal → KeepCommandRefusal
 refused_as NoSuchEnvironment = keep.NoSuchEnvironment
 refused_as NoSuchFeature = keep.NoSuchFeature

@@ -1,4 +1,4 @@
--- The JSON form of a command. A `put` keeps the keys in byte order.
+-- The JSON form of a command. The keys of the object are in byte order.
 use Rattle.std.specs.Prelude.{ℕ, List, codes}
 use Rattle.serde_json.specs.Data.{Data, Members, no_members, object, string}
 use Rattle.serde_json.specs.Written.{compact_text}
@@ -9,7 +9,7 @@ use Rattle.unl_upstream.specs.declared.command.Command.{Command}
 use Rattle.unl_upstream.specs.declared.command.Command.TheVariants.{PutFeature, RemoveFeature, PutSegment, RemoveSegment}
 use Rattle.unl_upstream.specs.Command.{environment_of}
 
--- the members, with the command word and the environment added
+-- the members of an object, with the keys `command` and `environment` added
 abbrev pub with_head : List ℕ → List ℕ → Members → Members
 with_head word environment members = with field.Command (string word) (with field.Environment (string environment) members)
 
@@ -24,7 +24,7 @@ command_data (PutSegment environment segment) =
 command_data (RemoveSegment environment id) =
     object (with_head (codes "remove-segment") environment (with field.Id (count id) no_members))
 
--- the text that a command is kept as: its JSON value in compact form
+-- the text that a keeper stores for a command: its JSON value in compact form
 unfoldable pub command_text : Command → List ℕ
 command_text command = compact_text (command_data command)
 

@@ -1,4 +1,4 @@
-//! The reply of an upstream to a request.
+//! Answers a request with an upstream: applies the request's command, or replies from the board.
 ghost use Rattle.std.specs.Prelude.{◌≡◌, IfOk, OnErr, option_to_list};
 ghost use Rattle.serde_json.specs.Data.{object, no_members};
 ghost use Rattle.serde_json.specs.View.{view};
@@ -6,8 +6,8 @@ ghost use Rattle.unl_core.specs.Answer.{refusal};
 ghost use Rattle.unl_documents.specs.declared.field.Field.TheVariants as field;
 ghost use Rattle.unl_documents.specs.Writing.{count, with};
 ghost use Rattle.unl_http_api.specs.Route.{route_of};
-ghost use Rattle.unl_upstream.specs.Answer.{IsValidOrder, is_commands_route, numbered, order_at, order_in, order_of};
-ghost use Rattle.unl_upstream.specs.Answer.{refused, replied, upstream_answer};
+ghost use Rattle.unl_upstream.specs.Answer.{IsValidCommandOrReply, command_or_reply_at, command_or_reply_in, command_or_reply_of};
+ghost use Rattle.unl_upstream.specs.Answer.{is_commands_route, numbered, refused, replied, upstream_answer};
 ghost use Rattle.unl_upstream.specs.Command.{IsValidCommand, command_in};
 ghost use Rattle.unl_upstream.specs.History.{AreAdded, accepted};
 ghost use Rattle.unl_upstream.specs.Requests.{command_given};
@@ -28,8 +28,9 @@ use unl_documents::{BadDocument, Field, List, Memory};
 use unl_http_api::{Reply, Request, Route, is_post};
 
 impl Upstream {
-    /// Answers a request. A command that comes with the secret is applied. Any other request is answered as Edge does, from
-    /// the upstream's board.
+    /// Answers a request. A `POST` on the route of commands with the secret as its token gives a command, which is
+    /// applied. On that route, a request with another method or token is refused. On all other routes the upstream's
+    /// board is read, and the reply is that of [`unl_core::answer`].
     ///
     /// # Errors
     /// `Memory`: out of memory. The upstream is then unchanged.
@@ -50,34 +51,38 @@ impl Upstream {
             ≡ record { reply = reply; up = self.new }) }
         ensures same { OnErr result (self.new ≡ self.old) }
     {
-        match self.order_of(alloc, request, draw)? {
+        match self.command_or_reply_of(alloc, request, draw)? {
             CommandOrReply::Execute(command) => self.apply_and_reply(alloc, &command),
             CommandOrReply::Reply(reply) => Ok(reply),
         }
     }
 
-    /// Returns what a request asks for.
-    #[tactic(auto, unfolding(crate::specs::Answer::order_of))]
-    pub(crate) fn order_of(
+    /// Returns the command that a request gives, or the reply to a request that gives none.
+    #[tactic(auto, unfolding(crate::specs::Answer::command_or_reply_of))]
+    pub(crate) fn command_or_reply_of(
         &self,
         alloc: Global,
         request: &Request,
         draw: &Draw,
     ) -> Result<CommandOrReply, Memory>
-        ensures order { IfOk result (λ order. order ≡ order_of self.now request.now draw.entry.now) }
-        ensures valid { IfOk result IsValidOrder }
+        ensures given { IfOk result (λ given. given ≡ command_or_reply_of self.now request.now draw.entry.now) }
+        ensures valid { IfOk result IsValidCommandOrReply }
     {
         if is_commands_route(alloc, request.target.as_slice())? {
-            return self.order_at(alloc, request);
+            return self.command_or_reply_at(alloc, request);
         }
         let answer = answer(alloc, self.board(), request, draw)?;
         Ok(CommandOrReply::Reply(answer.reply))
     }
 
-    /// Returns what a request on the route of commands asks for.
-    fn order_at(&self, alloc: Global, request: &Request) -> Result<CommandOrReply, Memory>
-        ensures order { IfOk result (λ order. order ≡ order_at self.now request.now) }
-        ensures valid { IfOk result IsValidOrder }
+    /// Returns the command that a request on the route of commands gives, or the reply that refuses it.
+    fn command_or_reply_at(
+        &self,
+        alloc: Global,
+        request: &Request,
+    ) -> Result<CommandOrReply, Memory>
+        ensures given { IfOk result (λ given. given ≡ command_or_reply_at self.now request.now) }
+        ensures valid { IfOk result IsValidCommandOrReply }
     {
         if !is_post(request.method) {
             return Ok(CommandOrReply::Reply(refuse_method(alloc, &Route::Commands)?));
@@ -88,7 +93,7 @@ impl Upstream {
         if !self.is_secret(token.as_slice()) {
             return Ok(CommandOrReply::Reply(refuse(alloc, status::FORBIDDEN, "UnknownToken")?));
         }
-        order_in(alloc, request.body.as_slice())
+        command_or_reply_in(alloc, request.body.as_slice())
     }
 
     /// Applies a command. The reply is built before the command is committed, so that running out of memory changes nothing.
@@ -112,10 +117,10 @@ impl Upstream {
     }
 }
 
-/// Returns what the body of a request asks for, after the request has shown the secret.
-fn order_in(alloc: Global, body: &[u8]) -> Result<CommandOrReply, Memory>
-    ensures order { IfOk result (λ order. order ≡ order_in (command_in body.now)) }
-    ensures valid { IfOk result IsValidOrder }
+/// Reads the command in the body of a request that came with the secret. A bad body is refused with 400 `BadBody`.
+fn command_or_reply_in(alloc: Global, body: &[u8]) -> Result<CommandOrReply, Memory>
+    ensures given { IfOk result (λ given. given ≡ command_or_reply_in (command_in body.now)) }
+    ensures valid { IfOk result IsValidCommandOrReply }
 {
     match read_command_bytes(alloc, body) {
         Ok(command) => Ok(CommandOrReply::Execute(command)),
@@ -134,7 +139,7 @@ fn is_commands_route(alloc: Global, target: &[u8]) -> Result<bool, Memory>
     }
 }
 
-/// Returns the reply with the new version number of an environment.
+/// Returns the reply to an accepted command, which has the new version number of the environment.
 pub(crate) fn numbered(alloc: Global, number: u64) -> Result<Reply, Memory>
     ensures { IfOk result (λ reply. reply ≡ numbered number) }
 {
@@ -151,7 +156,7 @@ fn number_object(alloc: Global, number: u64) -> Result<Value, Memory>
     Ok(Value::Object(members))
 }
 
-/// Returns the reply to a command that is refused or not kept.
+/// Returns the reply to a command that is refused or not kept. `Memory` is returned as an error.
 pub(crate) fn refused(alloc: Global, refusal: KeepCommandRefusal) -> Result<Reply, Memory>
     ensures { IfOk result (λ reply. reply ≡ refused refusal) }
 {

@@ -1,4 +1,4 @@
-//! The commands of an upstream.
+//! The `Command` type: adds, replaces or removes one feature or segment of an upstream.
 ghost use Rattle.std.specs.Prelude.{◌≡◌};
 ghost use Rattle.unl_upstream.specs.Command.{environment_of};
 
@@ -7,13 +7,13 @@ use unl_documents::{Feature, Segment, Text};
 /// A change to one environment of an upstream.
 #[derive(Drop)]
 pub enum Command {
-    /// Adds the feature, or replaces the one with the same name.
+    /// Adds the feature to the environment, or replaces the one with the same name.
     PutFeature { environment: Text, feature: Feature },
-    /// Removes the feature with this name.
+    /// Removes the feature with this name from the environment.
     RemoveFeature { environment: Text, name: Text },
-    /// Adds the segment, or replaces the one with the same id.
+    /// Adds the segment to the environment, or replaces the one with the same id.
     PutSegment { environment: Text, segment: Segment },
-    /// Removes the segment with this id.
+    /// Removes the segment with this id from the environment.
     RemoveSegment { environment: Text, id: u64 },
 }
 

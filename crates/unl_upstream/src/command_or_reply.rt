@@ -3,7 +3,7 @@
 use crate::command::Command;
 use unl_http_api::Reply;
 
-/// What to do with a request.
+/// Whether a request gives a command, or needs only a reply.
 #[derive(Drop)]
 pub(crate) enum CommandOrReply {
     /// The request gives this command, which is to be applied.

@@ -1,4 +1,4 @@
-//! Keeps a command: its text is stored before it is published.
+//! Keeping a command: its text is stored with a keeper before its new version is published.
 ghost use Rattle.std.specs.Prelude.{◌≡◌, ◌≢◌, ◌<◌, true, [], ◌∷◌, Err, IfOk, IfErr, OnOk};
 ghost use Rattle.unl_upstream.specs.Command.{IsValidCommand};
 ghost use Rattle.unl_upstream.specs.Kept.{Carries, IsPending, KeepsCommand, Puts, kept_state, with_room};
@@ -28,9 +28,10 @@ pub(crate) struct PendingPut {
 /// of its environment, one above the old.
 ///
 /// # Errors
-/// The first refusal that applies. `KeeperFull`: no other refusal applies, and the keeper keeps 10,000,000 commands or more.
-/// `KeeperFault`: the keeper failed and incremented its fault count. `Memory`: out of memory. On every error the upstream and
-/// the kept commands are unchanged.
+/// `NoSuchEnvironment`, `NoSuchFeature`, `NoSuchSegment` or `TooMany`: the upstream refuses the command, with the first
+/// of these that applies. `KeeperFull`: none of these applies, and the keeper keeps 10,000,000 commands or more.
+/// `KeeperFault`: the keeper failed and incremented its fault count. `Memory`: out of memory. On every error the
+/// upstream and the kept commands are unchanged.
 pub fn keep<K: Keeper>(
     alloc: Global,
     up: &mut Upstream,
@@ -71,7 +72,7 @@ fn keep_one<K: Keeper>(
 /// Prepares a command and its text, if the keeper has room for it.
 ///
 /// # Errors
-/// As for [`keep`], without the failures of the keeper.
+/// As for [`keep`], except `KeeperFault`.
 #[tactic(auto, using(crate::proofs::Carrying::room_left, crate::proofs::Carrying::full, crate::proofs::Carrying::refused_for))]
 pub(crate) fn prepare_put<K: Keeper>(
     alloc: Global,
@@ -97,7 +98,7 @@ pub(crate) fn prepare_put<K: Keeper>(
 /// Stores a command's text, then publishes the prepared command. Nothing after the keeper's put can run out of memory.
 ///
 /// # Errors
-/// Those of the keeper.
+/// The errors of the keeper's `put`. The upstream is then unchanged.
 pub(crate) fn put<K: Keeper>(
     alloc: Global,
     up: &mut Upstream,

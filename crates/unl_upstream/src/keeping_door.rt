@@ -1,4 +1,4 @@
-//! Serves the links of a door one after another, with an upstream that keeps its commands.
+//! Serves the links (connections) of a door (a listener) one after another, with an upstream that keeps its commands.
 ghost use Rattle.std.specs.Prelude.{◌≡◌, true, OnOk};
 ghost use Rattle.unl_base.specs.Doors.{IsClosed, IsListening};
 ghost use Rattle.unl_base.specs.Faults.{HasCause};
@@ -42,9 +42,9 @@ impl<'a, K: Keeper> Server for DurableUpstream<'a, K> {
     ) };
 }
 
-/// Serves the links of a door one after another and hands each back, until the door is closed. Returns how many links were
-/// served. Each command is kept before it is acknowledged. A fault of a link, or running out of memory while serving it, ends
-/// that link alone.
+/// Serves the links of a door one after another, and returns each to the door, until the door is closed. Returns how
+/// many links were served. Each command is kept before it is acknowledged. A fault of a link, or running out of memory
+/// while serving it, ends that link alone.
 ///
 /// # Errors
 /// `Failed`: the door could not hand out a link, and incremented its fault count.
@@ -63,8 +63,8 @@ pub fn serve_kept_door<K: Keeper, D: Door, R: Draws, W: Wait>(
         (linking (kept_state up.old (K.state keeper.old)) (R.coming draws.old) (D.state door.old))
         (linking (kept_state up.new (K.state keeper.new)) (R.coming draws.new) (D.state door.new)) }
 
-    // Even if the door's links are not observable: attempts to keep the commands of the links are all that changed the
-    // upstream and its keeper.
+    // This holds even if the door's links are not observable: nothing but attempts to keep the commands of the links
+    // changed the upstream and its keeper.
     ensures carries { AttemptsPreserve (kept_state up.old (K.state keeper.old)) (kept_state up.new (K.state keeper.new)) }
     ensures closed { OnOk result (IsClosed (D.state door.new)) }
     ensures ports { (D.state door.new).ports ≡ (D.state door.old).ports }

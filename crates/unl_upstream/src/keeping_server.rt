@@ -21,7 +21,8 @@ use unl_http_api::{End, Reply, Request};
 use unl_keeper::{KeepRefusal, Keeper};
 use unl_server::{RequestHandler, Server, serve_requests};
 
-/// Answers a request as [`Upstream::answer`] does, but keeps its command, if it gives one, before acknowledging it.
+/// Answers a request as [`Upstream::answer`] does. But if the request is a command to execute, the keeper stores the
+/// command before the reply acknowledges it.
 ///
 /// # Errors
 /// `Memory`: out of memory. The upstream and the keeper are then unchanged.
@@ -55,14 +56,14 @@ fn answer_one<K: Keeper>(
         (kept_state up.new (K.state keeper.new))) }
     ensures same { OnErr result (kept_state up.new (K.state keeper.new) ≡ kept_state up.old (K.state keeper.old)) }
 {
-    match up.order_of(alloc, request, draw)? {
+    match up.command_or_reply_of(alloc, request, draw)? {
         CommandOrReply::Execute(command) => keep_and_reply(alloc, up, keeper, &command),
         CommandOrReply::Reply(reply) => Ok(reply),
     }
 }
 
-/// Keeps a command. Both possible replies, for success and for a fault of the keeper, are built before the put, so that
-/// nothing after it can run out of memory.
+/// Stores a command in the keeper and applies it, and returns the reply. The replies for success and for a fault of the
+/// keeper are both built before the put, so that nothing after it can run out of memory.
 fn keep_and_reply<K: Keeper>(
     alloc: Global,
     up: &mut Upstream,
@@ -134,7 +135,8 @@ impl<'a, K: Keeper> RequestHandler for ByKept<'a, K> {
     ghost keeps_on = { λ first next last one two. (two.0 ∙ one.0, two.1 ∙ one.1) };
 }
 
-/// Serves a connection as [`Upstream::serve`] does, but keeps each command before acknowledging it.
+/// Serves a connection as [`Upstream::serve`] does, but the keeper stores each command before the reply acknowledges
+/// it. Returns how many requests were answered, and how the connection ended.
 pub fn serve_kept<K: Keeper, L: Link, R: Draws>(
     alloc: Global,
     up: &mut Upstream,
@@ -145,15 +147,16 @@ pub fn serve_kept<K: Keeper, L: Link, R: Draws>(
     requires { (K.state keeper.old).opened ≡ true }
     ensures stays { (K.state keeper.new).opened ≡ true }
 
-    // The whole conversation: its session, its replies, how it ended, how many requests were answered (each with the next
-    // draw), and the cause of each failure.
+    // The whole conversation: the requests that were read, the replies that were sent, how it ended, how many requests
+    // were answered (each with the next draw), and the cause of each failure.
     ensures converses { Converses ServesKeptRequest KeptServingRunsOut
         (link_view (L.left link.old) (L.sent link.old) (L.Source.faults link.old))
         (kept_serving_state (kept_state up.old (K.state keeper.old)) 0 (R.coming draws.old)) result.1
         (kept_serving_state (kept_state up.new (K.state keeper.new)) result.0 (R.coming draws.new)) result.0
         (link_view (L.left link.new) (L.sent link.new) (L.Source.faults link.new)) }
 
-    // In every case, attempts to keep the commands of the answered requests are all that changed the upstream and its keeper.
+    // In every case, nothing but attempts to keep the commands of the answered requests changed the upstream and its
+    // keeper.
     ensures keeps { ServesKept
         (kept_serving_state (kept_state up.old (K.state keeper.old)) 0 (R.coming draws.old)) result.1 result.0
         (kept_serving_state (kept_state up.new (K.state keeper.new)) result.0 (R.coming draws.new)) }

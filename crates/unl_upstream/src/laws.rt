@@ -1,4 +1,4 @@
-//! Properties that hold for an upstream after any commands.
+//! Properties that are proved for every upstream, after any commands. The functions here do nothing at run time.
 ghost use Rattle.std.specs.Prelude.{◌≡◌, List, Err, option_to_list};
 ghost use Rattle.unl_delta.specs.History.{IsHistory};
 ghost use Rattle.unl_base.specs.declared.draws.Draw.{Draw};
@@ -15,20 +15,22 @@ ghost use Rattle.unl_upstream.specs.Reopening.{ReopeningGivesBack};
 ghost use Rattle.unl_upstream.specs.Laws.{EnvironmentsStay, VersionsMatchHistory};
 ghost use Rattle.unl_upstream.specs.Laws.{VersionsBelongToLines};
 
-/// After any commands, each environment's version represents the history of the commands accepted for it. Its number is their
-/// count, and its epoch is the one that the upstream began with. So the version belongs to the line of that one history.
+/// After any commands, each environment's version represents the history of the commands accepted for it. Its number is
+/// their count, and its epoch is the one that the upstream was created with. So the version belongs to the line (the
+/// list of the histories of all epochs) that consists of this one history.
 pub fn versions_match_history()
     ensures history { (commands : List Command) → IsHistory (history_of commands) }
     ensures represents { VersionsMatchHistory }
     ensures lines { VersionsBelongToLines }
 {}
 
-/// After any commands, an environment has a version exactly if the upstream began with it.
+/// After any commands, an environment has a version exactly if the upstream was created with this environment.
 pub fn environments_stay()
     ensures { EnvironmentsStay }
 {}
 
-/// A refused command changes nothing. So the accepted commands alone lead to the same state, and are all accepted.
+/// A refused command changes nothing. So applying only the accepted commands leads to the same state, and all of them
+/// are accepted again.
 pub fn refused_changes_nothing()
     ensures one { (command : Command) (up : UpstreamState) (refusal : CommandRefusal) → apply_command command up ≡ Err refusal
         → after_command command up ≡ up }
@@ -44,22 +46,24 @@ pub fn requests_give_commands()
     ensures secret { (command : Command) (up : UpstreamState) → (after_command command up).secret ≡ up.secret }
 {}
 
-/// After any attempts to keep commands, with any faults: the upstream is still the initial one after the kept commands, the
-/// acknowledged commands are all that were added to these, and at most one row follows the kept ones, left by a failed put.
+/// These hold after any attempts to keep commands, with any faults of the keeper. The upstream has the state that the
+/// kept commands lead to. Only the acknowledged commands were added to the kept commands. At most one row follows the
+/// kept rows, and it was left by a failed put.
 pub fn keeping_carries()
     ensures carries { KeepingCarries }
     ensures continues { KeepingContinues }
 {}
 
-/// Reopening a keeper, with an initial upstream of the same environments and epoch, restores the kept commands, or these and
-/// one more whose put failed since the last successful put. Only a fault or running out of memory can prevent it.
+/// Reopening a keeper, with an initial upstream of the same environments and epoch, restores the kept commands. It may
+/// also restore one more command, whose put failed after the last successful put. Only a fault of the keeper or running
+/// out of memory can prevent this.
 pub fn reopening_gives_back()
     ensures { ReopeningGivesBack }
 {}
 
-/// The state after an upstream that keeps its commands has served links is that after the commands before them, then the kept
-/// commands of their answered requests. Its keeper keeps that many more rows. Each request takes one draw, and a link that
-/// ran out of memory may take one more.
+/// After an upstream that keeps its commands has served links, its state is the earlier state after the kept commands
+/// of the answered requests, in order. Its keeper keeps one more row for each of these commands. Each answered request
+/// takes one draw, and a link on which memory ran out may take one more.
 pub fn kept_links_name_commands()
     ensures { KeptLinksNameCommands }
 {}

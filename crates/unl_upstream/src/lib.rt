@@ -1,4 +1,10 @@
-//! The upstream: applies commands to its environments, and answers requests from their current state.
+//! The upstream: the server that holds the features and segments of a few environments. It applies commands to them and
+//! answers requests from their current state.
+//!
+//! Each environment has a version: its state, a number that each accepted command increments, and an epoch, which is
+//! set when the upstream is created. An upstream that lost its state starts again at number 0, with a higher epoch. An
+//! upstream can also keep its commands: it stores each one with a `unl_keeper::Keeper` before it acknowledges it, and
+//! can be reopened from them.
 #![tactic(auto)]
 
 mod answering;

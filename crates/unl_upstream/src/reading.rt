@@ -29,7 +29,7 @@ impl Document for Command {
     }
 }
 
-/// Reads the command with this command word.
+/// Reads a command whose `command` key has the value `word`.
 #[tactic(auto, unfolding(crate::specs::Command::command_by))]
 fn command_by(alloc: Global, word: &str, value: &Value) -> Result<Command, BadDocument>
     ensures gives { Gives result (command_by word.now (view value.now)) }
@@ -97,8 +97,9 @@ fn remove_segment(alloc: Global, value: &Value) -> Result<Command, BadDocument>
 /// Reads a command from a JSON value.
 ///
 /// # Errors
-/// `NotJson`: the value is no object. Otherwise the first fault of its keys, in this order: `command`, which must be one of
-/// four words, `environment`, and then `feature`, `name`, `segment` or `id`. Or `Memory`: out of memory.
+/// `NotJson`: the value is not an object. Otherwise the first fault of its keys, in this order: `command`, which must
+/// be `put-feature`, `remove-feature`, `put-segment` or `remove-segment`; then `environment`; then the key that this
+/// command needs, `feature`, `name`, `segment` or `id`. Or `Memory`: out of memory.
 pub fn read_command(alloc: Global, value: &Value) -> Result<Command, BadDocument>
     ensures gives { Gives result (document command_of (view value.now)) }
     ensures valid { IfOk result IsValidCommand }
@@ -106,7 +107,7 @@ pub fn read_command(alloc: Global, value: &Value) -> Result<Command, BadDocument
     read_document(alloc, value)
 }
 
-/// Reads a command from the JSON bytes of a body or of a line, as [`read_command`] does.
+/// Reads a command from the JSON bytes of a request body or of a kept row, as [`read_command`] does.
 #[tactic(auto, unfolding(crate::specs::Command::command_in))]
 pub(crate) fn read_command_bytes(alloc: Global, bytes: &[u8]) -> Result<Command, BadDocument>
     ensures gives { Gives result (command_in bytes.now) }

@@ -30,7 +30,7 @@ impl Model for Ready {
 }
 
 impl Ready {
-    /// Creates a prepared command for a slot, as prepared from `slots`.
+    /// Creates a command that was prepared from `slots` for the slot with the index `slot`.
     pub(crate) fn at(
         slots: &List<Slot>,
         slot: usize,
@@ -48,7 +48,7 @@ impl Ready {
         }
     }
 
-    /// Returns the installation that publishes the command.
+    /// Returns the board update that publishes the new version in its slot.
     pub(crate) fn into_install(self) -> Install
         ensures { result ≡ installs.Env self.slot self.snapshot }
     {
@@ -61,7 +61,7 @@ impl Ready {
         Install::Env(slot, snapshot)
     }
 
-    /// Returns the version number that the command's environment gets. Allocates nothing.
+    /// Returns the version number that the environment has once the command is committed. Allocates nothing.
     pub fn number(&self) -> u64
         ensures { result ≡ self.now.number }
     {
@@ -69,7 +69,7 @@ impl Ready {
     }
 }
 
-/// Returns the snapshot of the version after the next event.
+/// Applies the next event to the version of a snapshot, and returns the snapshot of the new version.
 #[tactic(auto, using(crate::proofs::Next::next_applies, crate::proofs::Next::next_is_batch))]
 pub(crate) fn snapshot_after(
     alloc: Global,

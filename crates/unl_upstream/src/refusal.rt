@@ -1,4 +1,4 @@
-//! Why a command is refused, or is not kept.
+//! The errors of commands: why a command is refused, or why it is not kept (stored with a keeper, then published).
 ghost use Rattle.std.specs.Prelude.{◌≡◌};
 ghost use Rattle.unl_upstream.specs.declared.refusal.CommandRefusal.TheVariants.{Memory as memory};
 ghost use Rattle.unl_upstream.specs.declared.refusal.KeepCommandRefusal.TheVariants.{Memory as out_of_memory};
@@ -58,7 +58,8 @@ pub enum KeepCommandRefusal {
     /// The segment to remove does not exist.
     #[error("there is no such segment")]
     NoSuchSegment,
-    /// The environment is full, or its version number is the last one: carries the count or the number.
+    /// The environment is full, or its version number is the last one: carries the count or the number, as in
+    /// [`CommandRefusal::TooMany`].
     #[error("there are {0} already")]
     TooMany(u64),
     /// The keeper keeps 10,000,000 commands or more: carries their count.

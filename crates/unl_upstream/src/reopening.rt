@@ -1,4 +1,4 @@
-//! Reopens an upstream: applies the rows of its keeper in order.
+//! Reopens an upstream after a restart: applies the commands in its keeper's rows, in order.
 ghost use Rattle.std.specs.Prelude.{◌≡◌, ◌≤◌, ◌<◌, ◌+◌, ◌^◌, true, false, Some, None, IfOk, IfErr, OnOk, OnErr};
 ghost use Rattle.unl_upstream.specs.Kept.{kept_state};
 ghost use Rattle.unl_upstream.specs.Reopening.{WhyRowFails, IsOpening, IsSameKeeper, Reopens, TakesRow, row_after};
@@ -14,10 +14,11 @@ use unl_keeper::{KeepRefusal, Keeper};
 /// Why an upstream was not reopened.
 #[derive(Debug, Drop, Error)]
 pub enum ReopenFault {
-    /// The row with this number, from 1, has this text, which is no command, or whose command is refused.
+    /// A row cannot be applied: its text is no command, or the upstream refuses the command. Carries the number of the
+    /// row, counted from 1, and its text.
     #[error("row {0} is no command that is accepted")]
     BadRow(u64, Text),
-    /// The keeper has no row with this number, from 1.
+    /// The keeper has no row with this number. Rows are counted from 1.
     #[error("row {0} is not there")]
     NoRow(u64),
     /// The keeper failed, and incremented its fault count.
@@ -41,8 +42,8 @@ impl From<KeepRefusal> for ReopenFault {
     }
 }
 
-/// Opens a keeper, and applies the commands of its rows in order to an upstream that has applied none. Returns the number of
-/// rows.
+/// Opens a keeper, and applies the commands of its rows in order to an upstream that has not applied any command yet.
+/// Returns the number of rows.
 ///
 /// # Errors
 /// `BadRow`: the text of a row is no command, or its command is refused. `NoRow`: the keeper lacks a row. `Fault`: the keeper
@@ -75,7 +76,7 @@ pub fn reopen<K: Keeper>(
 /// Applies the row after the first `before` rows.
 ///
 /// # Errors
-/// As for [`reopen`]. The upstream is then unchanged.
+/// As for [`reopen`]. On an error the upstream is unchanged.
 fn apply_next_row<K: Keeper>(
     alloc: Global,
     up: &mut Upstream,
@@ -102,7 +103,7 @@ fn apply_next_row<K: Keeper>(
     }
 }
 
-/// Applies the command of a row. Returns whether the row is a command and is accepted.
+/// Applies the command of a row. Returns false if the row is no command or the command is refused.
 #[tactic(auto, unfolding(crate::specs::Reopening::row_after))]
 fn apply_row(alloc: Global, up: &mut Upstream, row: &Text) -> Result<bool, Memory>
     ensures applied { IfOk result (λ is. is ≡ true → row_after row.now up.old ≡ Some up.new) }

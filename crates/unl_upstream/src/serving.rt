@@ -43,22 +43,22 @@ impl RequestHandler for ByUpstream {
 }
 
 impl Upstream {
-    /// Serves a connection: answers each request, with its own draw, until the connection ends. Returns how many requests
-    /// were answered, and how the connection ended.
+    /// Serves a connection: answers each request until the connection ends. A draw (a time and a random word) is taken
+    /// for each request. Returns how many requests were answered, and how the connection ended.
     pub fn serve<L: Link, R: Draws>(
         &mut self,
         alloc: Global,
         link: &mut L,
         draws: &mut R,
     ) -> (usize, End)
-        // The whole conversation: its session, its replies, how it ended, how many requests were answered (each with the next
-        // draw), and the cause of each failure.
+        // The whole conversation: the requests that were read, the replies that were sent, how it ended, how many
+        // requests were answered (each with the next draw), and the cause of each failure.
         ensures converses { Converses ServesRequest ServingRunsOut
             (link_view (L.left link.old) (L.sent link.old) (L.Source.faults link.old))
             (serving_state self.old 0 (R.coming draws.old)) result.1 (serving_state self.new result.0 (R.coming draws.new)) result.0
             (link_view (L.left link.new) (L.sent link.new) (L.Source.faults link.new)) }
 
-        // In every case, the commands of the answered requests are all that changed the upstream.
+        // In every case, nothing but the commands of the answered requests changed the upstream.
         ensures obeyed { ObeysRequests self.old result.0 self.new }
     {
         serve_requests::<ByUpstream, L, R>(alloc, self, link, draws)

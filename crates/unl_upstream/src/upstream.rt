@@ -1,4 +1,4 @@
-//! An upstream and its commands: prepare, commit, and both in one step.
+//! The `Upstream` type. A command is applied in two steps, `prepare` and `commit`, or in one, `apply`.
 ghost use Rattle.std.specs.Prelude.{◌≡◌, ◌≢◌, ◌≤◌, true, [], ◌∷◌, IfErr, IfOk, OnErr, OnOk, Ok, Err, length, map};
 ghost use Rattle.std.specs.List.{list_all};
 ghost use Rattle.std.specs.Str.{bytes_eq};
@@ -24,7 +24,8 @@ use unl_delta::EnvVersion;
 use unl_documents::{List, Memory, Shared, Text};
 use unl_tokens::Book;
 
-/// A board whose environments are changed by commands, and the secret that requests must show to give commands.
+/// The board that requests are answered from, with the current version of each environment, and the secret. A request
+/// must send the secret as its token to give a command.
 #[derive(Drop)]
 pub struct Upstream {
     board: Board,
@@ -43,9 +44,15 @@ impl Model for Upstream {
 }
 
 impl Upstream {
-    /// Creates an upstream of up to eight environments with different names. Each environment is empty, at number 0 of the
-    /// epoch. The book of tokens is published once on the board. An upstream that lost its state must begin with a higher
-    /// epoch than before, so that its clients take what it has.
+    /// Creates an upstream of up to eight environments with different names. Each environment is empty, at number 0 of
+    /// the epoch. `boot` distinguishes this run of the program from others. `book` is the list of tokens that requests
+    /// may use.
+    ///
+    /// An upstream that lost its state must be created with a higher epoch than before. Otherwise its clients may hold
+    /// versions with higher numbers, and ignore the new ones.
+    ///
+    /// # Errors
+    /// `Memory`: out of memory.
     pub fn new(
         alloc: Global,
         boot: u64,
@@ -87,7 +94,7 @@ impl Upstream {
         Ok(Upstream { board, secret })
     }
 
-    /// Returns the current board. Allocates nothing.
+    /// Returns the board with the current versions. Allocates nothing.
     pub fn board(&self) -> &Board
         ensures value { result.now ≡ self.now.board }
         ensures slots { AreSlots result.now.slots }
@@ -95,7 +102,7 @@ impl Upstream {
         &self.board
     }
 
-    /// Returns whether these bytes are the secret.
+    /// Returns whether the token of a request is the secret.
     pub(crate) fn is_secret(&self, token: &[u8]) -> bool
         ensures { result ≡ bytes_eq token.now self.now.secret }
     {

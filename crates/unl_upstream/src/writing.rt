@@ -12,9 +12,10 @@ use std::alloc::Global;
 use unl_documents::to_value::{ToValue, put, put_value};
 use unl_documents::{Feature, Field, Memory, Segment, Text};
 
-/// Writes a command as a JSON object: its command word, its environment, and the feature, name, segment or id. The value is
-/// read back as the same command if the document in it is within its limits, and the environment and any removed name are
-/// names.
+/// Writes a command as a JSON object with the keys `command`, `environment`, and `feature`, `name`, `segment` or `id`.
+///
+/// [`read_command`](crate::read_command) reads the same command back if the feature or segment in it is valid, and the
+/// environment and the name of a removed feature are valid names.
 #[tactic(auto, using(crate::proofs::Written::written_back))]
 pub fn write_command(alloc: Global, command: &Command) -> Result<Value, Memory>
     ensures written { IfOk result (λ value. view value ≡ command_data command.now) }
@@ -24,7 +25,7 @@ pub fn write_command(alloc: Global, command: &Command) -> Result<Value, Memory>
     command_value(alloc, command)
 }
 
-/// Returns the JSON text that a command is kept as: that of [`write_command`].
+/// Returns the text that a keeper stores for a command: the JSON of [`write_command`].
 pub(crate) fn command_text(alloc: Global, command: &Command) -> Result<Text, Memory>
     ensures text { IfOk result (λ text. text ≡ command_text command.now) }
     ensures reads_back { IsValidCommand command.now → HasNames command.now
@@ -53,7 +54,7 @@ fn command_value(alloc: Global, command: &Command) -> Result<Value, Memory>
     }
 }
 
-/// Adds the command word and the environment to the members.
+/// Adds the keys `command`, with the value `word`, and `environment` to the members of an object.
 fn put_head(
     members: &mut Map<String, Value>,
     alloc: Global,

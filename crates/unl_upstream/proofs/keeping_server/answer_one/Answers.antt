@@ -11,11 +11,11 @@ returns-in-Execute-clause-gives g c =
     let after = kept_state c.keep_and_reply.new.up (g.K.Keeper.state c.keep_and_reply.new.keeper) in
     let fact : IfOk c.keep_and_reply.result (λ reply. AnswersByKeeping before c.args.request.now c.args.draw.now reply after) =
     IfOk-weaker c.keep_and_reply.result _ _ (λ reply replies. replies_with_command before after c.args.request.now c.args.draw.now reply
-    c.in-Execute.command (sym c.in_ok-command.ensures.order ∙ c.in-Execute.is) replies)
+    c.in-Execute.command (sym c.in_ok-command.ensures.given ∙ c.in-Execute.is) replies)
     c.keep_and_reply.ensures.replies in
     search rules
 
 pub returns-in-Reply-clause-gives : goal.returns-in-Reply-clause-gives
 returns-in-Reply-clause-gives g c =
     replies_without_command (kept_state c.args.up.now (g.K.Keeper.state c.args.keeper.now)) c.args.request.now c.args.draw.now c.in-Reply.reply
-    (sym c.in_ok-command.ensures.order ∙ c.in-Reply.is)
+    (sym c.in_ok-command.ensures.given ∙ c.in-Reply.is)
