@@ -6,7 +6,7 @@ use std::rt::{Env, Files};
 use std::{env, fs, io};
 use thiserror::Error;
 
-/// The environment variable with the path of the file.
+/// The environment variable with the path of a file whose lines are further arguments.
 pub(crate) const FILE_VARIABLE: &str = "UNL_EDGE_WORDS_FILE";
 
 /// Why the arguments could not be read.
@@ -20,12 +20,12 @@ pub enum ArgumentsFault {
     Memory,
 }
 
-/// Why the arguments could not be read, with the error of the system.
+/// Why the arguments could not be read, in detail, for the report to the operator.
 #[derive(Drop)]
 pub(crate) enum Cause {
-    /// The named item isn't UTF-8.
+    /// An argument or the path of the file isn't UTF-8. Carries a text that names the one that isn't.
     NotText(&'static str),
-    /// The file can't be read.
+    /// The file can't be read, or isn't UTF-8. Carries its path and the error of the system.
     File(String, io::Error),
     /// Out of memory.
     Memory,
@@ -50,7 +50,7 @@ pub fn read_arguments<R: Env + Files + AllocGlobal>(rt: &R) -> Result<Vec<String
     }
 }
 
-/// Reads the arguments, as [`read_arguments`], with the error of the system.
+/// Reads the arguments as [`read_arguments`] does. The error carries more detail.
 pub(crate) fn arguments<R: Env + Files + AllocGlobal>(rt: &R) -> Result<Vec<String>, Cause> {
     let args = match env::args(rt) {
         Ok(args) => args,

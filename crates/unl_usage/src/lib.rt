@@ -1,5 +1,6 @@
-//! What the programs report to an operator on standard error: why arguments are refused, the usage of each command, and the
-//! state of a database. Also reads the arguments, from the command line and from the file that `UNL_EDGE_WORDS_FILE` names.
+//! What the programs report to an operator on standard error: why arguments are refused, the usage of each command, and
+//! the state of a database. Also reads the arguments, from the command line and from the file that
+//! `UNL_EDGE_WORDS_FILE` names.
 #![tactic(auto)]
 
 mod arguments;

@@ -1,4 +1,4 @@
-//! The options of each command, as its usage lists them.
+//! The options of each command, in the order of its usage text.
 
 /// The kind of an option's value.
 #[derive(Clone, Copy, Debug, PartialEq, Eq)]
@@ -20,27 +20,24 @@ pub(crate) struct CommandOption {
     pub kind: OptionKind,
     /// The placeholder for its value in the usage.
     pub value: &'static str,
-    /// The default value. `None` if the option is required.
+    /// The default value, as a text for the usage. `None` if the option is required.
     pub absent: Option<&'static str>,
-    /// The valid values.
+    /// The valid values, as a text for the usage.
     pub range: &'static str,
-    /// Its purpose.
+    /// What the option is for, as a text for the usage.
     pub purpose: &'static str,
 }
 
 /// The commands and what they do, in the order of the usage.
 pub(crate) const COMMANDS: [(&str, &str); 7] = [
-    (
-        "edge",
-        "serves the features of an upstream, which it asks again and again",
-    ),
+    ("edge", "polls an upstream, and serves its features"),
     (
         "upstream",
-        "takes commands that change features, and serves them",
+        "takes commands that change features, and serves the features",
     ),
     (
         "follow",
-        "asks an upstream or an edge turn by turn, and prints whether a feature is on",
+        "polls an upstream or an edge, and prints whether a feature is on",
     ),
     (
         "replay",
@@ -53,16 +50,20 @@ pub(crate) const COMMANDS: [(&str, &str); 7] = [
     ),
     (
         "load",
-        "evaluates features that it makes from a seed, and counts what is on",
+        "evaluates features that it generates from a seed, and counts those that are on",
     ),
 ];
 
+/// The range of an option whose value is a text.
 const TEXT: &str = "no line break or NUL in it";
 
+/// The range of an option whose value is a token.
 const TOKEN: &str = "PROJECT:ENVIRONMENT.SECRET of at most 512 bytes";
 
+/// The range of an option whose value is any unsigned 64-bit number.
 const ANY_U64: &str = "0 to 18446744073709551615";
 
+/// The option `--port`, with the default of `edge`.
 const PORT: CommandOption = CommandOption {
     name: "port",
     kind: OptionKind::Number,
@@ -78,7 +79,7 @@ const CONNECTIONS: CommandOption = CommandOption {
     value: "N",
     absent: Some("0"),
     range: ANY_U64,
-    purpose: "after how many links it ends, never at 0",
+    purpose: "the number of connections after which it ends; 0 for never",
 };
 
 const UPSTREAM_ADDRESS: CommandOption = CommandOption {
@@ -87,7 +88,7 @@ const UPSTREAM_ADDRESS: CommandOption = CommandOption {
     value: "HOST:PORT",
     absent: None,
     range: "a host, a colon, and a port of 1 to 65535",
-    purpose: "the server that is asked",
+    purpose: "the address of the server that it polls",
 };
 
 const INTERVAL: CommandOption = CommandOption {
@@ -96,7 +97,7 @@ const INTERVAL: CommandOption = CommandOption {
     value: "N",
     absent: Some("15"),
     range: "1 to 3600",
-    purpose: "how many seconds lie between two turns",
+    purpose: "the seconds between two turns",
 };
 
 const MODE: CommandOption = CommandOption {
@@ -115,7 +116,7 @@ static CHECK: [CommandOption; 2] = [
         value: "N",
         absent: Some("0"),
         range: "0 to 100000000000000",
-        purpose: "the moment of the evaluations, in milliseconds since 1970",
+        purpose: "the time of the evaluations, in milliseconds since 1970",
     },
     CommandOption {
         name: "word",
@@ -123,7 +124,7 @@ static CHECK: [CommandOption; 2] = [
         value: "N",
         absent: Some("0"),
         range: ANY_U64,
-        purpose: "the random word of the evaluations",
+        purpose: "the random number of the evaluations",
     },
 ];
 
@@ -135,7 +136,7 @@ static EDGE: [CommandOption; 9] = [
         value: "LIST",
         absent: None,
         range: "1 to 8 tokens of different environments",
-        purpose: "what it shows to its upstream, one for each environment",
+        purpose: "the tokens that it sends to its upstream, one for each environment",
     },
     CommandOption {
         name: "tokens",
@@ -143,7 +144,7 @@ static EDGE: [CommandOption; 9] = [
         value: "LIST",
         absent: None,
         range: "1 to 1024 tokens",
-        purpose: "what clients may show, if the upstream knows it",
+        purpose: "the tokens that it accepts from clients, if the upstream knows them",
     },
     PORT,
     CommandOption {
@@ -152,7 +153,7 @@ static EDGE: [CommandOption; 9] = [
         value: "N",
         absent: Some("4"),
         range: "1 to 16",
-        purpose: "how many links it serves at once",
+        purpose: "the number of connections that it serves at once",
     },
     INTERVAL,
     MODE,
@@ -174,7 +175,7 @@ static UPSTREAM: [CommandOption; 8] = [
         value: "TEXT",
         absent: None,
         range: "not empty, no line break or NUL in it",
-        purpose: "what a command must show",
+        purpose: "the token that a command must be sent with",
     },
     CommandOption {
         name: "environments",
@@ -190,7 +191,7 @@ static UPSTREAM: [CommandOption; 8] = [
         value: "LIST",
         absent: Some("empty"),
         range: "tokens that name one project or *",
-        purpose: "what edges and backends may show",
+        purpose: "the tokens that it accepts from edges and backends",
     },
     CommandOption {
         name: "frontend-tokens",
@@ -198,7 +199,7 @@ static UPSTREAM: [CommandOption; 8] = [
         value: "LIST",
         absent: Some("empty"),
         range: "tokens that name one project or *",
-        purpose: "what browsers may show",
+        purpose: "the tokens that it accepts from browsers",
     },
     CommandOption {
         absent: Some("4242"),
@@ -210,7 +211,7 @@ static UPSTREAM: [CommandOption; 8] = [
         value: "N",
         absent: Some("0"),
         range: ANY_U64,
-        purpose: "a number above that of each start before, as the seconds of the clock",
+        purpose: "a number above those of all earlier starts, such as the time in seconds",
     },
     CommandOption {
         name: "keep",
@@ -218,7 +219,7 @@ static UPSTREAM: [CommandOption; 8] = [
         value: "WHERE",
         absent: Some("memory"),
         range: "memory or sqlite",
-        purpose: "what it holds its commands in, both lost at its end",
+        purpose: "where it keeps its commands; both are lost when it ends",
     },
     CONNECTIONS,
 ];
@@ -231,7 +232,7 @@ static FOLLOW: [CommandOption; 7] = [
         value: "TOKEN",
         absent: None,
         range: TOKEN,
-        purpose: "what it shows to the server",
+        purpose: "the token that it sends to the server",
     },
     CommandOption {
         name: "feature",
@@ -247,7 +248,7 @@ static FOLLOW: [CommandOption; 7] = [
         value: "QUERY",
         absent: Some("empty"),
         range: "a query as userId=7&plan=gold, within the limits of a context",
-        purpose: "who asks",
+        purpose: "the context in which the feature is evaluated",
     },
     MODE,
     CommandOption {
@@ -256,7 +257,7 @@ static FOLLOW: [CommandOption; 7] = [
         value: "N",
         absent: Some("1"),
         range: "1 to 1000000",
-        purpose: "how many turns it makes",
+        purpose: "the number of turns",
     },
     INTERVAL,
 ];
@@ -268,7 +269,7 @@ static LOAD: [CommandOption; 2] = [
         value: "N",
         absent: None,
         range: ANY_U64,
-        purpose: "what its features are made from",
+        purpose: "the seed that its features are generated from",
     },
     CommandOption {
         name: "count",
@@ -276,11 +277,11 @@ static LOAD: [CommandOption; 2] = [
         value: "N",
         absent: None,
         range: "1 to 1000000",
-        purpose: "how often it evaluates one",
+        purpose: "the number of evaluations",
     },
 ];
 
-/// The options of a command, required ones first. `None` if there is no such command.
+/// Returns the options of a command, the required ones first. `None` if there is no such command.
 pub(crate) fn options_of(command: &str) -> Option<&'static [CommandOption]> {
     match command {
         "replay" => Some(&[]),
@@ -294,7 +295,7 @@ pub(crate) fn options_of(command: &str) -> Option<&'static [CommandOption]> {
     }
 }
 
-/// A value for a required option that every command accepts.
+/// Returns a valid value for a required option. Every command that has the option accepts it.
 pub(crate) fn sample_of(option: &str) -> &'static str {
     match option {
         "upstream" => "h:1",

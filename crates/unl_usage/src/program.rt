@@ -1,16 +1,16 @@
-//! The programs that take arguments.
+//! The two programs whose usage can be reported.
 
 /// A program that reports refused arguments.
 #[derive(Clone, Copy, Debug, PartialEq, Eq)]
 pub enum Program {
-    /// The edge with all its commands. The first argument is the command.
+    /// `unl_edge`, with all its commands. The first argument is the command.
     Edge,
-    /// The upstream with a database file. The first argument is the path of the file.
+    /// `unl_durable_upstream`, an upstream with a database file. The first argument is the path of the file.
     DurableUpstream,
 }
 
 impl Program {
-    /// The name of the executable.
+    /// Returns the name of the executable.
     pub fn name(self) -> &'static str {
         match self {
             Program::Edge => "unl_edge",

@@ -9,8 +9,8 @@ use std::alloc::{AllocError, Global};
 use std::fmt::Display;
 use std::rt::{Env, Files};
 
-/// Reads the arguments again, and prints on standard error why the program refuses them, and its usage. Prints nothing if
-/// memory runs out.
+/// Reads the arguments again, and prints on standard error why the program refuses them, followed by its usage. Prints
+/// nothing if memory runs out.
 pub fn report_refusal<R: Env + Files + AllocGlobal + Eprint>(rt: &R, program: Program) {
     match arguments(rt) {
         Ok(args) => {
@@ -32,8 +32,9 @@ fn report<E: Eprint, D: Display + Drop>(rt: &E, line: D) {
     let _ = rt.eprintln(line);
 }
 
-/// Why a program refuses its arguments, and its usage, as lines; or its version, if the first argument is `--version` or
-/// `-V`. The text contains none of the given values, since they may be secret.
+/// Returns the text to print for refused arguments: the reason and the usage, as lines. If the first argument is
+/// `--version` or `-V`, it is the version instead. The text contains no option value that was given, since it may be
+/// secret.
 ///
 /// # Errors
 /// Out of memory.
@@ -101,7 +102,7 @@ fn push_durable(
     push_usage(text, program, command, options)
 }
 
-/// Appends why the options after the first argument are refused.
+/// Appends why the arguments after the first are refused, unless they ask for help.
 fn push_fault(
     alloc: Global,
     text: &mut String,
@@ -154,7 +155,8 @@ fn push_option_fault(text: &mut String, option_fault: &OptionFault<'_>) -> Resul
     }
 }
 
-/// Appends which option's value is refused first.
+/// Appends the first option whose value is refused. If there is none, the client and frontend tokens together are at
+/// fault.
 fn push_values(
     alloc: Global,
     text: &mut String,

@@ -1,4 +1,4 @@
-//! Scans arguments for options, up to the first argument that is none.
+//! Splits arguments into options and their values, and finds the first argument that is neither.
 use crate::options::CommandOption;
 use std::alloc::{AllocError, Global};
 
@@ -14,7 +14,8 @@ pub(crate) struct Given<'a> {
 pub(crate) enum OptionFault<'a> {
     /// The arguments ask for help.
     Help,
-    /// The argument at this position, from 1, is neither an option nor the value of one.
+    /// The argument at this position is neither an option nor the value of one. The first argument after the command
+    /// has position 2.
     NotAnOption(usize),
     /// The command has no option with this name.
     Unknown(&'a str),
@@ -22,24 +23,25 @@ pub(crate) enum OptionFault<'a> {
     NoValue(CommandOption),
     /// The option is given twice.
     Repeated(CommandOption),
-    /// The option is required, and missing.
+    /// The option is required, but not given.
     Missing(CommandOption),
 }
 
-/// The given options, or why there are none.
+/// The given options with their values, or the first fault.
 pub(crate) type Scanned<'a> = Result<Vec<Given<'a>>, OptionFault<'a>>;
 
-/// An argument at a place where an option may begin.
+/// The meaning of an argument where an option may begin.
 enum Argument<'a> {
     /// An option with its value.
     Whole(Given<'a>),
     /// An option whose value is the next argument.
     ValueNext(CommandOption),
-    /// Not an option of the command.
+    /// Not an option of the command, for this reason.
     None(OptionFault<'a>),
 }
 
-/// Scans the arguments after a command for its options: `--name value` or `--name=value`, each at most once.
+/// Splits the arguments after a command into its options: `--name value` or `--name=value`, each at most once. Returns
+/// the first fault as the inner error.
 ///
 /// # Errors
 /// `AllocError`: out of memory.
@@ -79,7 +81,7 @@ pub(crate) fn scan<'a>(
     }
 }
 
-/// Classifies an argument that is not the value of the option before it. `place` is its position after the command, from 0.
+/// Classifies an argument where an option may begin. `place` is its index among the arguments after the command.
 fn read_argument<'a>(options: &[CommandOption], word: &'a str, place: usize) -> Argument<'a> {
     if word == "--help" || word == "-h" {
         return Argument::None(OptionFault::Help);
@@ -104,7 +106,7 @@ fn is_value(word: &str) -> bool {
     word == "-" || !word.starts_with('-')
 }
 
-/// The given options, if all required ones are among them.
+/// Returns the given options if all required ones are among them, and otherwise `Missing` for the first that is not.
 fn with_required<'a>(options: &[CommandOption], found: Vec<Given<'a>>) -> Scanned<'a> {
     for option in options {
         if option.absent.is_none() && value_of(&found, option.name).is_none() {

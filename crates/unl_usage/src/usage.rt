@@ -3,14 +3,14 @@ use crate::options::{COMMANDS, CommandOption};
 use crate::program::Program;
 use std::alloc::AllocError;
 
-/// The version of the programs, and the kit that last proved them.
+/// The version of the programs, and the toolchain that last proved them.
 const VERSION: &str = "1.0.0, proved with rattle-kit-13f of the logic dac8208d650f15bf";
 
 /// The note on the environment variable that names a file with more arguments.
 const FILE_NOTE: &str =
-    "Where UNL_EDGE_WORDS_FILE names a file, its lines are further arguments, one a line.";
+    "If UNL_EDGE_WORDS_FILE names a file, each of its lines is one more argument.";
 
-/// Appends the version.
+/// Appends the program's name and version.
 pub(crate) fn push_version(text: &mut String, program: Program) -> Result<(), AllocError> {
     let name = program.name();
     write!(text, "{name} {VERSION}")
@@ -28,7 +28,7 @@ pub(crate) fn push_commands(text: &mut String) -> Result<(), AllocError> {
     text.push_str(FILE_NOTE)
 }
 
-/// Appends the usage of a command.
+/// Appends the usage of a command: one line with its required options, then one line for each option.
 pub(crate) fn push_usage(
     text: &mut String,
     program: Program,
@@ -49,7 +49,7 @@ pub(crate) fn push_usage(
     text.push_str(FILE_NOTE)
 }
 
-/// Appends a required option to the first line.
+/// Appends an option to the first line of the usage if it is required.
 fn push_named(text: &mut String, option: &CommandOption) -> Result<(), AllocError> {
     if option.absent.is_some() {
         return Ok(());
@@ -59,7 +59,7 @@ fn push_named(text: &mut String, option: &CommandOption) -> Result<(), AllocErro
     write!(text, " --{name} {value}")
 }
 
-/// Appends the line of an option.
+/// Appends the line that describes an option.
 fn push_option(text: &mut String, option: &CommandOption) -> Result<(), AllocError> {
     let name = option.name;
     let value = option.value;

@@ -1,5 +1,5 @@
-//! Finds out which option's value is refused, by trying each value in `read_words`, together with sample values for the
-//! other required options.
+//! Finds the option whose value `read_words` refuses: calls `read_words` with each value alone, together with valid
+//! sample values for the other required options.
 use crate::options::{CommandOption, OptionKind, sample_of};
 use crate::scan::Given;
 use std::alloc::{AllocError, Global};
@@ -18,10 +18,10 @@ pub(crate) enum ValueFault {
     /// It is a list without items.
     #[error("is an empty list")]
     EmptyList,
-    /// The item at this position of the list, from 1, is refused on its own.
+    /// This item of the list is refused even as the only item. Its position counts from 1, without empty items.
     #[error("has a bad item {0}")]
     BadItem(usize),
-    /// There are too many items, or two are equal that must differ.
+    /// Each item alone is accepted. There are too many items, or two items are equal that must differ.
     #[error("has too many items, or two alike")]
     BadItems,
     /// It is a text that the option doesn't accept.
@@ -29,7 +29,7 @@ pub(crate) enum ValueFault {
     BadText,
 }
 
-/// Why the value of an option of this command is refused. `None` if it isn't.
+/// Returns why this command refuses the value of an option. `None` if it accepts the value.
 pub(crate) fn fault_of(
     alloc: Global,
     command: &str,
@@ -48,7 +48,7 @@ pub(crate) fn fault_of(
     Ok(Some(fault))
 }
 
-/// Why a list is refused.
+/// Returns why the command refuses the value of a list option.
 fn list_fault(
     alloc: Global,
     command: &str,
@@ -95,12 +95,12 @@ fn takes(
     }
 }
 
-/// An option and its value as one argument.
+/// Returns an option and its value as one argument, `--name=value`.
 fn word_of(alloc: Global, name: &str, value: &str) -> Result<String, AllocError> {
     format!(in alloc; "--{name}={value}")
 }
 
-/// Whether a text is a number, of any size.
+/// Whether a text consists of one or more ASCII digits.
 fn is_number(text: &str) -> bool {
     !text.is_empty() && text.bytes().all(|byte| byte.is_ascii_digit())
 }
