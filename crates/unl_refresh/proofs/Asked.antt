@@ -1,4 +1,4 @@
--- What one exchange adds to the history of a peer.
+-- The text that one exchange adds to the history of a peer, and the reply that it uses up.
 use Rattle.std.proofs.Common.{◌≡◌, ◌∙◌, ℕ, List, [], ◌++◌, drop, Option, ap, append-nil, inr, subst, sym}
 use Rattle.std.specs.Option.{option_map}
 use Rattle.unl_base.proofs.Histories.{one_more_text}

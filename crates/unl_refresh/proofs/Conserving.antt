@@ -1,4 +1,4 @@
--- Each step of a queue of metrics books keeps its rule.
+-- Each step of a queue of metrics books keeps its rule `IsConserved`.
 use Rattle.std.proofs.Common.{◌≡◌, ◌≢◌, ℕ, ◌<◌, ⊎_elim, List, [], ◌∷◌, ◌++◌, set, sym, refl, ap, ◌∙◌, subst, arith}
 use mathlib.Core.Option.{some, some-ne-none}
 use lib.ListN.{get_elem?}

@@ -51,7 +51,7 @@ reading_leaves P slot before delta tag coming (Ok got) leaves is = by_status (go
     by_status false true is_found = batch_leaves P slot before delta coming got _ leaves is (same_number got.status 200 is_found) refl
     by_status false false is_found = leaves.stays
 
--- Then `P` holds after a refresh.
+-- If `P` holds before, and after each batch that the bytes to come may bring, then it holds after a refresh.
 pub refreshed_leaves : (P : Installed → Type 0) (result : Result Outcome RefreshFault) (slot : ℕ) (ask : Ask) (before after : Installed)
     (tag coming : Option (List ℕ))
     → IfOk result (λ outcome. Refreshes slot ask before coming (record { outcome = outcome; installed = after; tag = tag }))

@@ -1,11 +1,11 @@
--- Books that are taken are merged into the metrics.
+-- The steps of a receiver that takes books and merges them into the metrics, as `Merges`.
 use Rattle.std.proofs.Common.{◌≡◌, ◌∙◌, List, [], ◌∷◌, ◌++◌, Option, Some, None, append-nil, append_assoc, ap, refl, sym}
 use Rattle.std.specs.Prelude.{MatchOption, option_to_list}
 use Rattle.std.proofs.lemmas.List.Sums.{fold-append}
 use Rattle.unl_metrics.specs.Book.{Book, sum_of}
-use Rattle.unl_refresh.specs.MetricsQueues.{Intake, Merges, taking_in, total}
+use Rattle.unl_refresh.specs.MetricsQueues.{Intake, Merges, total}
 
--- nothing happened
+-- no book was taken or merged
 pub merges_nothing : (metrics : Book) (intake : Intake) → Merges metrics intake metrics intake
 merges_nothing metrics intake = record {
   books = [];
@@ -39,18 +39,7 @@ merges_held metrics metrics_after book before after had same now = by_now after.
       summed = stays.1;
     }
 
--- the next book is taken, and held
-pub merges_next : (metrics book : Book) (before after : Intake) → before.held ≡ None → after ≡ taking_in before book
-    → Merges metrics before metrics after
-merges_next metrics book before after none same = record {
-  books = book ∷ [];
-  taken = ap (λ (i : Intake). i.taken) same;
-  merged = [];
-  rest = ap (λ (h : Option Book). option_to_list h ++ book ∷ []) none ∙ sym (ap (λ (i : Intake). option_to_list i.held) same);
-  summed = refl;
-}
-
--- one thing after another
+-- one `Merges` after another
 pub merges_on : (first next last : Book) (before middle after : Intake) → Merges first before next middle → Merges next middle last after
     → Merges first before last after
 merges_on first next last before middle after one two =

@@ -1,11 +1,11 @@
--- Each token has its poller.
+-- The pollers that were created are those of the tokens: one for each token, with its parameters and without a tag.
 use Rattle.std.proofs.Common.{◌≡◌, ◌<◌, ◌≤◌, ◌+◌, ◌∙◌, ℕ, Bool, List, [], ◌∷◌, ◌++◌, Option, None, length, drop, map, get_or, ap, sym, arith, append-nil, append_assoc}
 use Rattle.std.proofs.lemmas.List.{drop_all, drop_more, map-append}
 use Rattle.unl_refresh.specs.declared.ask.Ask.{Ask}
 use Rattle.unl_refresh.specs.SlotParameters.{SlotParameters, no_tags, parameters_of, slot_parameters, tag_of}
 use Rattle.unl_refresh.specs.declared.slot_poller.SlotPoller.{SlotPoller}
 
--- after one more token
+-- the pollers after one more token was added
 pub fed_next : (host : List ℕ) (delta : Bool) (tokens environments : List (List ℕ)) (place : ℕ) (token environment : List ℕ)
     (before after : List SlotPoller) (slot_poller : SlotPoller) → place < length tokens → length environments ≡ length tokens
     → slot_poller.environment ≡ environment → slot_poller.ask ≡ record { host = host; token = token; delta = delta; tag = None }
@@ -53,7 +53,7 @@ all_fed host delta tokens environments place made few is =
 
 -- ---- their tags
 
--- after one more token, whose poller has no tag
+-- the tags of the pollers after one more token, whose poller has no tag
 pub untagged_next : (tokens : List (List ℕ)) (place : ℕ) (before after : List SlotPoller) (slot_poller : SlotPoller) → place < length tokens
     → slot_poller.ask.tag ≡ None → after ≡ before ++ slot_poller ∷ [] → map tag_of before ++ no_tags (drop place tokens) ≡ no_tags tokens
     → map tag_of after ++ no_tags (drop (place + 1) tokens) ≡ no_tags tokens

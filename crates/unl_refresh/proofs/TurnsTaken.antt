@@ -26,7 +26,7 @@ use Rattle.unl_refresh.specs.declared.slot_poller.SlotPoller.{SlotPoller}
 
 -- ---- one exchange
 
--- for the book; the call's host is the poller's
+-- the exchange for the book; the call's host is the poller's
 pub book_polled : (texts : List (List ℕ)) (asked host : List ℕ) (before after : Installed) (peer peer_after : PeerView)
     (tags : List (Option (List ℕ))) (metrics : Book) (reported : Result Outcome RefreshFault) (result : Result Unit Memory) → asked ≡ host
     → OnOk result (reported ≢ Err out_of_memory) → OnErr result (reported ≡ Err out_of_memory)
@@ -67,7 +67,7 @@ book_polled texts asked host before after peer peer_after tags metrics reported 
 abbrev parameters_for : List ℕ → Ask → SlotParameters
 parameters_for environment ask = record { environment = environment; host = ask.host; token = ask.token; delta = ask.delta }
 
--- for what is new in a slot
+-- the exchange for what is new in a slot
 pub slot_refreshed : (slot : ℕ) (environment : List ℕ) (ask ask_after : Ask) (before after : Installed) (peer peer_after : PeerView)
     (tags : List (Option (List ℕ))) (metrics : Book) (reported : Result Outcome RefreshFault) (result : Result Unit Memory)
     → OnOk result (reported ≢ Err out_of_memory) → OnErr result (reported ≡ Err out_of_memory)
@@ -108,7 +108,7 @@ none_dropped environment coming before after (Ok outcome) sends book fault =
     book ∙ ap (λ (o : MetricsOutcome). book_after environment o before) sends
 none_dropped environment coming before after (Err e) sends book fault = fault
 
--- for a report of metrics, if there is one
+-- the exchange for a report of metrics, if there is one
 report_sent : (found : Option (Data × ℕ)) (parameters : SlotParameters) (installed : Installed) (tags : List (Option (List ℕ)))
     (before after : Book) (peer peer_after : PeerView) (reported : Result MetricsOutcome RefreshFault) (result : Result Unit Memory)
     → OnOk result (reported ≢ Err out_of_memory) → OnErr result (reported ≡ Err out_of_memory)
@@ -149,7 +149,7 @@ report_sent (Some (report, count)) parameters installed tags before after peer p
 report_sent (Some (report, count)) parameters installed tags before after peer peer_after (Err out_of_memory) (Ok u) some is sends book fault asks once causes silent =
     absurd (some refl)
 
--- for the metrics of a slot's environment; the call's texts are those of the slot
+-- the exchange for the metrics of a slot's environment; the call's texts are those of the slot
 pub metrics_sent : (parameters : SlotParameters) (environment host token : List ℕ) (installed : Installed) (tags : List (Option (List ℕ)))
     (before after : Book) (peer peer_after : PeerView) (reported : Result MetricsOutcome RefreshFault) (result : Result Unit Memory)
     → environment ≡ parameters.environment → host ≡ parameters.host → token ≡ parameters.token
@@ -195,7 +195,7 @@ slot_polled (Err e) slot parameters now tag before middle after takes stops same
   subst (λ (p : SlotParameters). StopsSending p middle after) same stops,
 )
 
--- memory ran out while it was refreshed
+-- memory ran out while the slot was refreshed
 pub slot_stopped : (slot : ℕ) (parameters : SlotParameters) (tag : Option (List ℕ)) (before after : PollState)
     → StopsRefreshing slot parameters tag before after → tag_at before.tags slot ≡ tag → StopsAtSlot slot parameters before after
 slot_stopped slot parameters tag before after stops at =
@@ -241,7 +241,7 @@ polls_next slot_pollers initial slot other start now next inside same before one
     before last (subst (λ (fs : List SlotParameters). PollsSlotsFrom slot fs now last) (sym (split_at slot_pollers initial slot other inside same))
     (next, one, behind))
 
--- and if memory ran out at one of those after it, it did at one of all
+-- one slot was polled; if memory runs out at a slot after it, it runs out at one of all slots
 pub stops_next : (slot_pollers initial : List SlotPoller) (slot : ℕ) (other : SlotPoller) (start now next : PollState) → slot < length slot_pollers
     → map parameters_of slot_pollers ≡ map parameters_of initial
     → ((last : PollState) → StopsFrom slot (drop slot (map parameters_of initial)) now last → StopsFrom 0 (map parameters_of initial) start last)
@@ -252,7 +252,7 @@ stops_next slot_pollers initial slot other start now next inside same before one
     before last (subst (λ (fs : List SlotParameters). StopsFrom slot fs now last) (sym (split_at slot_pollers initial slot other inside same))
     (inr (next, one, behind)))
 
--- memory ran out at this one
+-- memory ran out at this slot
 pub stops_here : (slot_pollers initial : List SlotPoller) (slot : ℕ) (other : SlotPoller) (start now last : PollState) → slot < length slot_pollers
     → map parameters_of slot_pollers ≡ map parameters_of initial
     → ((last : PollState) → StopsFrom slot (drop slot (map parameters_of initial)) now last → StopsFrom 0 (map parameters_of initial) start last)
@@ -319,7 +319,7 @@ turn_left result duty before installed peer peer_after metrics count lent rest m
     all : take count (lent ++ rest) ≡ lent
     all = subst (λ (n : ℕ). take n (lent ++ rest) ≡ lent) many (take-append_seam lent rest)
 
--- as many pollers as before
+-- there are as many pollers as before
 pub many_left : (lent items left : List SlotPoller) → lent ≡ items → map parameters_of left ≡ map parameters_of lent → length left ≡ length items
 many_left lent items left same kept =
     sym (length-map left parameters_of) ∙ ap length kept ∙ length-map lent parameters_of ∙ ap length same

@@ -1,4 +1,4 @@
--- Weights of lists.
+-- Lemmas on the weight of a list, the sum of the weights of its items (`weigh`).
 use Rattle.std.proofs.Common.{◌≡◌, ℕ, zero, suc, ◌+◌, ◌≤◌, List, [], ◌∷◌, ◌++◌, set, sym, refl, ap, arith}
 use mathlib.Core.Option.{some, some-injective, some-ne-none}
 use lib.ListN.{get_elem?}
@@ -9,19 +9,19 @@ module _ {X : Type 0} where
   weigh_append h [] ys = omega arith
   weigh_append h (x ∷ xs) ys = let rest = weigh_append h xs ys in omega arith
 
-  -- what all weigh after a change of one
+  -- the weight of a list after one item is replaced
   pub weigh_set : (f : X → ℕ) (xs : List X) (i : ℕ) (v w : X) → get_elem? xs i ≡ some v → weigh f (set xs i w) + f v ≡ weigh f xs + f w
   weigh_set f [] i v w at = absurd (some-ne-none v (sym at))
   weigh_set f (x ∷ xs) zero v w at = let same = ap f (some-injective x v at) in omega arith
   weigh_set f (x ∷ xs) (suc i) v w at = let rest = weigh_set f xs i v w at in omega arith
 
-  -- one weighs no more than all
+  -- an item weighs at most as much as the list
   pub weigh_at : (f : X → ℕ) (xs : List X) (i : ℕ) (v : X) → get_elem? xs i ≡ some v → f v ≤ weigh f xs
   weigh_at f [] i v at = absurd (some-ne-none v (sym at))
   weigh_at f (x ∷ xs) zero v at = let same = ap f (some-injective x v at) in omega arith
   weigh_at f (x ∷ xs) (suc i) v at = let rest = weigh_at f xs i v at in omega arith
 
-  -- where nothing weighs by g, and what weighs nothing by g weighs nothing by f, nothing weighs by f
+  -- If the list has weight 0 by `g`, and each item with weight 0 by `g` has weight 0 by `f`, the list has weight 0 by `f`.
   pub weigh_none : (g f : X → ℕ) (xs : List X) → weigh g xs ≡ 0 → ((j : ℕ) (u : X) → get_elem? xs j ≡ some u → g u ≡ 0 → f u ≡ 0) → weigh f xs ≡ 0
   weigh_none g f [] none idle = refl
   weigh_none g f (x ∷ xs) none idle =
@@ -29,7 +29,8 @@ module _ {X : Type 0} where
       let rest : weigh f xs ≡ 0 = weigh_none g f xs (omega (arith, none)) (λ j u at. idle (suc j) u at) in
       omega (arith, here, rest)
 
-  -- where one has all weight by g, and what weighs nothing by g weighs nothing by f, it has all weight by f
+  -- If one item has the whole weight of the list by `g`, and each item with weight 0 by `g` has weight 0 by `f`, this item has the
+  -- whole weight of the list by `f`.
   pub weigh_alone : (g f : X → ℕ) (xs : List X) (i : ℕ) (v : X) → get_elem? xs i ≡ some v → weigh g xs ≡ g v
       → ((j : ℕ) (u : X) → get_elem? xs j ≡ some u → g u ≡ 0 → f u ≡ 0) → weigh f xs ≡ f v
   weigh_alone g f [] i v at all idle = absurd (some-ne-none v (sym at))

@@ -1,4 +1,4 @@
--- Counting the connections to a peer.
+-- A lower bound for the number of connections that were made to a peer.
 use Rattle.std.specs.Prelude.{◌≡◌, ℕ, ◌≤◌, List, Option, option_map, drop}
 use Rattle.unl_base.specs.Faults.{Rose}
 

@@ -1,4 +1,5 @@
--- The rule of a queue of metrics books. It relates the books that wait to what each pass knows (`views`).
+-- The rule of a queue of metrics books: no book is lost or duplicated. Each user of the queue holds a pass, which exists only in
+-- contracts. The view of a pass has the books that its holder put and took. A pass has a number of parts; a split divides them.
 use Rattle.std.specs.Prelude.{◌≡◌, ℕ, ◌+◌, List}
 use mathlib.Core.Option.{some}
 use lib.ListN.{get_elem?}
@@ -6,8 +7,9 @@ use Rattle.unl_metrics.specs.Book.{Book}
 use Rattle.unl_refresh.specs.Handovers.{empty_handover, weigh}
 use Rattle.unl_refresh.specs.declared.handover.Handover.{Handover}
 
--- Together the passes have all 2^64 parts. With any weight for each book, the books that were put weigh as much as those that were
--- taken and those that wait. A pass with no part knows nothing.
+-- `items` are the books that wait in the queue, and `views` are the views of all passes. `whole`: together the passes have all 2^64 parts.
+-- `conserved`: the books that were put are those that were taken and those that wait, each as many times. This is stated with sums: they
+-- are equal for any weight of each book. `idle`: a pass with no part has put and taken nothing.
 pub record IsConserved (items : List Book) (views : List Handover) : Type 0 where
   pub whole : weigh (λ v. v.parts) views ≡ 18446744073709551616
   pub conserved : (h : Book → ℕ) → weigh (λ v. weigh h v.handed) views ≡ weigh (λ v. weigh h v.taken) views + weigh h items

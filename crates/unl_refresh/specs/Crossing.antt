@@ -1,4 +1,4 @@
--- The type of a pass, to state that it can be sent to another thread.
+-- The type of a pass (the right of one thread to use the metrics queue), to state that it can be sent to another thread.
 use denote.RattleType.{RattleType}
 use Rattle.atomic_table.specs.contracts.shared.Seat as Seat
 use Rattle.crossbeam_queue.specs.contracts.array_queue.Doing as Doing
@@ -6,5 +6,7 @@ use Rattle.std.specs.contracts.option.Option as Option
 use Rattle.unl_metrics.specs.contracts.book.MetricsBook as MetricsBook
 use Rattle.unl_refresh.specs.contracts.handover.Handover as Handover
 
+-- The type of `MetricsPass`: a seat, by which one thread accesses the queue's `atomic_table`. The table has the queued metrics books and,
+-- for contracts, the books that each pass has put and taken.
 abbrev pub pass_type : RattleType
 pass_type = Seat.the_row (Option.the_row MetricsBook.the_row) (Doing.the_row MetricsBook.the_row Handover.the_row)

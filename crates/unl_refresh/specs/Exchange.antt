@@ -13,11 +13,11 @@ use Rattle.unl_refresh.specs.declared.outcome.RefreshFault.TheVariants.{PeerFaul
 
 -- ---- what is sent
 
--- The history of a peer has this text as one more, the last: all that is sent on a new connection.
+-- The history of a peer has one text for each connection. It ends with one more text now: all that was sent on a new connection.
 abbrev pub AddsText : Option (List (List ℕ)) → List ℕ → Option (List (List ℕ)) → Type 0
 AddsText history text history_after = history_after ≡ option_map (λ texts. texts ++ text ∷ []) history
 
--- The history has a prefix of this text as one more, the last.
+-- The history ends with one more text now, a prefix of `text`.
 pub record AddsPrefix (history : Option (List (List ℕ))) (text : List ℕ) (history_after : Option (List (List ℕ))) : Type 0 where
   pub part : List ℕ
   pub after : List ℕ
@@ -49,18 +49,20 @@ pub record AddsPiece
   pub took : Takes left piece left_after
   pub added : held_after ≡ held ++ piece
 
--- `true`: a piece is read and appended to the bytes held. `false`: nothing is, at the end of the stream.
+-- `true`: a piece is read and appended to the bytes held. `false`: the stream has ended, and nothing is appended.
 abbrev pub ReadsPiece : Bool → List ℕ → Option (List ℕ) → List ℕ → Option (List ℕ) → Type 0
 ReadsPiece true held left held_after left_after = AddsPiece held left held_after left_after
 ReadsPiece false held left held_after left_after = (held_after ≡ held) × HasEnded left
 
--- The bytes held are all of the bytes, or a prefix long enough to decide how they are parsed.
+-- The bytes held are all of the bytes, or a prefix that is long enough to decide how they are parsed: one byte more than the longest
+-- reply, a head of 8192 bytes and a body of 16777216 bytes.
 pub record IsEnough (bytes held : List ℕ) : Type 0 where
   pub more : List ℕ
   pub split : bytes ≡ held ++ more
   pub decides : (more ≡ []) ⊎ (16785409 ≤ length held)
 
--- The same for the bytes to come; nothing if they are not observable.
+-- The bytes held are all of the bytes to come, or a prefix long enough to decide how they are parsed. If the bytes to come are not
+-- observable, it says nothing.
 abbrev pub HoldsEnough : Option (List ℕ) → List ℕ → Type 0
 HoldsEnough None held = ⊤
 HoldsEnough (Some bytes) held = IsEnough bytes held
@@ -86,8 +88,8 @@ peer_view peer faults = record { replies = peer.replies; history = history_of pe
 abbrev pub ReplyOrFault : Type 0
 ReplyOrFault = Option (Result Got BadReply)
 
--- The request was sent on a new connection, and the next reply was read. Or the peer failed and counted that, after at most one
--- connection.
+-- The request was sent on a new connection, and the next reply was read. Or the peer failed and its fault count rose, after at most
+-- one connection.
 abbrev pub Meets : ReplyOrFault → List ℕ → PeerView → PeerView → Type 0
 Meets (Some reading) request before after =
     IsParsedFrom (option_map next_of before.replies) reading × Asks request before.replies before.history after.replies after.history
@@ -95,8 +97,8 @@ Meets (Some reading) request before after =
 Meets None request before after =
     AsksAtMostOnce request before.replies before.history after.replies after.history × Rose before.faults after.faults
 
--- The causes of a call that makes at most one exchange: the peer's fault count rose if the result is `PeerFault`, and is unchanged
--- otherwise.
+-- The effect on the peer's fault count of a call that makes at most one exchange: the count rises if the result is `PeerFault`. It is
+-- unchanged on success and on `Memory`.
 pub record HasPeerCause {T : Type 0} (result : Result T RefreshFault) (before after : ℕ) : Type 0 where
   pub later : before ≤ after
   pub cause : result ≡ Err PeerFault → Rose before after

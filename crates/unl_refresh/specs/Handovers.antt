@@ -1,4 +1,5 @@
--- The metrics books that passed through a queue, as each pass knows them.
+-- The metrics books that passed through a queue. Each user of the queue holds a pass, which knows the books that its holder has put
+-- and taken. A pass can be split into parts; all passes of a queue together have 2^64 parts.
 use Rattle.std.specs.Prelude.{◌≡◌, ℕ, ◌+◌, ◌-◌, List, [], ◌∷◌, ◌++◌}
 use Rattle.unl_metrics.specs.Book.{Book}
 use Rattle.unl_refresh.specs.declared.handover.Handover.{Handover}
@@ -8,8 +9,8 @@ abbrev pub weigh : {X : Type 0} → (X → ℕ) → List X → ℕ
 weigh h [] = 0
 weigh h (x ∷ xs) = h x + weigh h xs
 
--- The same books, each as many times, in any order: with any weight for each book, both lists have the same sum. So at each key the
--- counts of both lists add up to the same number.
+-- Both lists have the same books, each equally often, in any order. This is stated by sums: for each function that gives every book
+-- a weight, the weights of both lists have the same sum.
 abbrev pub SameBooks : List Book → List Book → Type 0
 SameBooks xs ys = (h : Book → ℕ) → weigh h xs ≡ weigh h ys
 
@@ -33,14 +34,14 @@ new_handover = handover 1 [] []
 abbrev pub less_a_part : Handover → Handover
 less_a_part v = handover (v.parts - 1) v.handed v.taken
 
--- what two passes know together
+-- a pass that has the parts and the books of two passes
 abbrev pub both_handovers : Handover → Handover → Handover
 both_handovers v w = handover (v.parts + w.parts) (v.handed ++ w.handed) (v.taken ++ w.taken)
 
--- a book was put
+-- a pass after a book was put
 abbrev pub handing : Handover → Book → Handover
 handing v book = handover v.parts (v.handed ++ book ∷ []) v.taken
 
--- a book was taken
+-- a pass after a book was taken
 abbrev pub taking : Handover → Book → Handover
 taking v book = handover v.parts v.handed (v.taken ++ book ∷ [])

@@ -1,4 +1,5 @@
--- The outcome of sending metrics.
+-- Sending metrics: the request, the outcome, and the keys that are dropped from the book. The book sums counts for each key: an
+-- environment, an application, a feature and an hour.
 use Rattle.std.specs.Prelude.{◌≡◌, ◌≢◌, ◌==◌, ◌||◌, ℕ, List, Option, Some, None, Result, Ok, Err, codes, if◌then◌else◌}
 use Rattle.std.specs.Prelude.{IfOk, OnErr, OnOk, option_map, ⊤}
 use Rattle.serde_json.specs.Data.{Data}
@@ -71,7 +72,7 @@ IsNamedMetrics Nothing = ⊤
 IsNamedMetrics (Sent count) = ⊤
 IsNamedMetrics (Refused status) = ⊤
 
--- What sending the metrics of an environment leaves, for a host and with a token.
+-- The effects of sending the metrics of an environment to a host, with a token.
 pub record SentMetrics
     (environment host token : List ℕ) (before : Book) (peer : PeerView) (result : Result MetricsOutcome RefreshFault)
     (after : Book) (peer_after : PeerView) : Type 0 where

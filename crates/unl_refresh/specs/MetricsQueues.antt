@@ -6,11 +6,11 @@ use Rattle.unl_metrics.specs.Book.{Book, sum_of}
 use Rattle.unl_refresh.specs.declared.handover.Handover.{Handover}
 use Rattle.unl_refresh.specs.declared.metrics_queue.MetricsQueue.{MetricsQueue}
 
--- the pass is a pass of this queue
+-- the pass (the right of one thread to use a queue) belongs to this queue
 abbrev pub IsPassOfMetrics : MetricsQueue → Pass Book Handover → Type 0
 IsPassOfMetrics queue pass = IsPassOf queue.books pass
 
--- what a pass knows
+-- what a pass knows: its number of parts, and the books that were put and taken with it
 abbrev pub known_by : Pass Book Handover → Handover
 known_by pass = view pass
 
@@ -24,8 +24,8 @@ pub record Intake : Type 0 where
   pub taken : List Book
   pub held : Option Book
 
--- A receiver: its queue; its number of the 2^64 parts (each sender has one); the books handed over by the senders that it took back;
--- and what it has taken in.
+-- A receiver: its queue; how many of the queue's 2^64 parts it has (each sender has one); the books handed over by the senders that
+-- it took back; and what it has taken in.
 pub record Receiving : Type 0 where
   pub queue : TableId
   pub parts : ℕ
@@ -48,7 +48,7 @@ taking_in intake book = record { taken = intake.taken ++ book ∷ []; held = Som
 abbrev pub new_receiving : TableId → Receiving
 new_receiving queue = record { queue = queue; parts = 18446744073709551616; handed = []; intake = no_intake }
 
--- A book was handed over as a whole and is empty now, or it is unchanged and nothing was handed over.
+-- A book was handed over in full and is empty now; or it is unchanged, and nothing was handed over.
 abbrev pub HandsOver : List Book → Book → List Book → Book → Type 0
 HandsOver handed book handed_after book_after =
     ((book_after ≡ []) × (handed_after ≡ handed ++ book ∷ [])) ⊎ ((book_after ≡ book) × (handed_after ≡ handed))

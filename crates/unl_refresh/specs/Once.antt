@@ -1,4 +1,5 @@
--- What one refresh of a slot leaves.
+-- One refresh of a slot: its result, and how it changes what is installed, the ask and the peer. An ask has the parameters of the
+-- request; a peer is the connection to the server.
 use Rattle.std.specs.Prelude.{◌≡◌, ◌≢◌, ◌+◌, ℕ, List, Some, None, Result, Ok, Err, IfOk, OnErr, OnOk, IsTrue, drop, option_map}
 use Rattle.unl_base.specs.Doors.{next_of}
 use Rattle.unl_base.specs.Faults.{Rose}
@@ -35,7 +36,7 @@ refresh_state installed ask peer = record { installed = installed; ask = ask; pe
 abbrev pub asked_by : Ask → List ℕ
 asked_by ask = refresh_request ask.delta ask.host ask.token ask.tag
 
--- What a refresh of a slot leaves.
+-- The effects of a refresh of a slot, whether or not the peer's replies are observable.
 pub record RefreshedOnce (slot : ℕ) (before : RefreshState) (result : Result Outcome RefreshFault) (after : RefreshState) : Type 0 where
   -- A reply is read, and it determines the outcome, what is installed, and the tag.
   pub takes : IfOk result (λ outcome. Refreshes slot before.ask before.installed (option_map next_of before.peer.replies)
@@ -52,9 +53,9 @@ pub record RefreshedOnce (slot : ℕ) (before : RefreshState) (result : Result O
   pub asks : OnOk result (Asks (asked_by before.ask) before.peer.replies before.peer.history after.peer.replies after.peer.history)
   pub once : AsksAtMostOnce (asked_by before.ask) before.peer.replies before.peer.history after.peer.replies after.peer.history
 
--- What a refresh of a slot makes of the peer's replies.
+-- How a refresh of a slot uses the next of the peer's replies.
 pub record TakesNextReply (slot : ℕ) (before : RefreshState) (result : Result Outcome RefreshFault) (after : RefreshState) : Type 0 where
-  -- If they are observable, the reply is the next one of them.
+  -- If the replies are observable, the reply that is read is the next one of them.
   pub next_reply : (list : List (List ℕ)) (reading : Result Got BadReply) → before.peer.replies ≡ Some list → IsReply (next_of list) reading
       → IfOk result (λ outcome. record { outcome = outcome; installed = after.installed; tag = after.ask.tag }
       ≡ after_reading slot before.ask.delta before.ask.tag before.installed reading)
@@ -68,8 +69,9 @@ pub record TakesNextReply (slot : ℕ) (before : RefreshState) (result : Result 
   pub one_reply : ¬ (Rose before.peer.faults after.peer.faults) → result ≢ Err Memory
       → after.peer.replies ≡ option_map (λ list. drop 1 list) before.peer.replies
 
--- Batches may be lost, duplicated or out of order: if the server sends batches from a line of histories, the slot has one revision
--- of that line, as seen through the projects, and its epoch and number don't fall.
+-- If the version of the slot, if any, represents a line of histories and the server sends batches from that line, the version after
+-- the refresh represents the line too, through the same visible projects, and its epoch and number don't fall. This holds even if
+-- batches are lost, duplicated or out of order.
 abbrev pub Delivers : ℕ → RefreshState → RefreshState → Type 0
 Delivers slot before after =
     (line : List Era) (sees : Sees) → IsLine line → PlaceRepresents line sees (place_of before.installed slot)

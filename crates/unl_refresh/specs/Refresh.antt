@@ -50,7 +50,7 @@ abbrev pub feed_read : Reading TheFeed → Result TheBatch Bad
 feed_read (Ok feed) = ok_or (batch_of_feed feed) NoNumber
 feed_read (Err fault) = Err (Feed fault)
 
--- the batch of a body, for a client that has the events up to number `held`
+-- the batch in the body of a reply, for a client that has the events up to number `held`
 abbrev pub batch_in : Bool → Option ℕ → List ℕ → Result TheBatch Bad
 batch_in delta held body = if delta then delta_in (batch_of_bytes held body) else feed_read (feed_in body)
 
@@ -70,7 +70,7 @@ pub record Refreshed : Type 0 where
 abbrev pub unread : Bad → Installed → Refreshed
 unread bad before = record { outcome = BadAnswer bad; installed = before; tag = None }
 
--- the outcome of a verdict, with the front after it
+-- the outcome of a verdict on a batch; the front after the batch is the number of changes published so far
 abbrev pub outcome_of : Verdict → ℕ → Outcome
 outcome_of verdict.Apply front = Published front
 outcome_of verdict.Repeat front = Repeat
@@ -120,7 +120,8 @@ pub record Refreshes (slot : ℕ) (ask : Ask) (before : Installed) (coming : Opt
 
 -- ---- where the batches come from
 
--- Each batch that is read for the place from the bytes to come (any bytes, if they are not observable) is sent from the line.
+-- Each batch that is read for the place from the bytes to come (any bytes, if they are not observable) is one that a server can
+-- send from the line, the list of the histories of all epochs, to a client for which the projects in `sees` are visible.
 abbrev pub Brings : List Era → Sees → Bool → Place → Option (List ℕ) → Type 0
 Brings line sees delta place coming =
     (got : Got) (batch : TheBatch) → IsParsedFrom coming (Ok got) → got.status ≡ 200

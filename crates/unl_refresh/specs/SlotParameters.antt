@@ -18,7 +18,7 @@ parameters_of slot_poller = record {
   delta = slot_poller.ask.delta;
 }
 
--- the tag of its next request
+-- the tag of the next request of a slot's poller
 abbrev pub tag_of : SlotPoller → Option (List ℕ)
 tag_of slot_poller = slot_poller.ask.tag
 
@@ -26,7 +26,7 @@ tag_of slot_poller = slot_poller.ask.tag
 abbrev pub no_tags : List (List ℕ) → List (Option (List ℕ))
 no_tags tokens = map (λ _. None) tokens
 
--- one for each token, for one server; the environments are in the order of the tokens
+-- the parameters of one slot for each token, all for one server; the environments are in the order of the tokens
 abbrev pub slot_parameters : List ℕ → Bool → List (List ℕ) → List (List ℕ) → List SlotParameters
 slot_parameters host delta [] environments = []
 slot_parameters host delta (token ∷ tokens) [] = []

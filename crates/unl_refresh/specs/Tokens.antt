@@ -1,4 +1,5 @@
--- The effect of a server's reply on the book of tokens.
+-- Refreshing the book of tokens from a peer, the server upstream: the request that is sent, and the effect of the reply. `texts` are the
+-- texts of the tokens that are asked for.
 use Rattle.std.specs.Prelude.{◌≡◌, ◌==◌, ℕ, not, List, Option, Some, None, Result, Ok, Err, codes, if◌then◌else◌}
 use Rattle.std.specs.Prelude.{IfOk, OnErr, OnOk, option_map}
 use Rattle.serde_json.specs.Written.{compact_text}
@@ -18,26 +19,27 @@ use Rattle.unl_refresh.specs.declared.outcome.RefreshFault.{RefreshFault}
 use Rattle.unl_refresh.specs.Exchange.{Asks, AsksAtMostOnce, IsParsedFrom, PeerView}
 use Rattle.unl_refresh.specs.Named.{IsNamedOutcome}
 
--- the request for a book of these texts, for a host
+-- the bytes of the request: a POST to `/edge/validate` on this host, with the token texts in its body
 unfoldable pub tokens_request : List (List ℕ) → List ℕ → List ℕ
 tokens_request texts host =
     request_text Post (codes "/edge/validate") host None None (compact_text (request_data texts))
 
--- the book that was read, limited to these texts; else the outcome
+-- the tokens of the book whose text is among `texts`; if the book could not be read, the outcome that reports why
 abbrev pub kept_in : List (List ℕ) → BookReading → Result (List Token) Outcome
 kept_in texts (Ok book) = Ok (kept texts book)
 kept_in texts (Err fault) = Err (BadAnswer (Book fault))
 
--- the book in a body, limited to these texts; else the outcome
+-- the same, from the body of a reply
 abbrev pub book_read : List (List ℕ) → List ℕ → Result (List Token) Outcome
 book_read texts body = kept_in texts (book_in body)
 
--- the book in a parsed reply, limited to these texts; else the outcome
+-- the same, from a parsed reply; a reply with another status than 200 gives `Refused`, and one that could not be parsed `BadAnswer`
 abbrev pub book_in_reply : List (List ℕ) → Result Got BadReply → Result (List Token) Outcome
 book_in_reply texts (Ok got) = if not (got.status == 200) then Err (Refused got.status) else book_read texts got.body
 book_in_reply texts (Err bad) = Err (BadAnswer (Reply bad))
 
--- A book is published unless it is the current one (`Repeat`). Without a book, the outcome is its cause and nothing changes.
+-- The effect on the installed data. A book is published (`Published`), or it is the current one already and nothing changes (`Repeat`).
+-- If there is no book, the outcome reports why and nothing changes. The other outcomes don't occur with a book.
 abbrev pub Installs : Result (List Token) Outcome → Installed → Outcome → Installed → Type 0
 Installs (Err other) before outcome after = (outcome ≡ other) × (after ≡ before)
 Installs (Ok book) before (Published front) after = IsBookInstalled book before (Some front) after
@@ -49,14 +51,15 @@ Installs (Ok book) before Held after = ⊥
 Installs (Ok book) before (Refused status) after = ⊥
 Installs (Ok book) before (BadAnswer bad) after = ⊥
 
--- A reply is read from the bytes to come (from some bytes, if they are not observable), and it has this effect.
+-- A reply is parsed from `coming`, the bytes that the peer sends, and it has the effect of `Installs`. If these bytes are not observable,
+-- `coming` is `None`, and the reply is parsed from some bytes.
 pub record RefreshesTokens
     (texts : List (List ℕ)) (before : Installed) (coming : Option (List ℕ)) (outcome : Outcome) (after : Installed) : Type 0 where
   pub reading : Result Got BadReply
   pub is_read : IsParsedFrom coming reading
   pub installs : Installs (book_in_reply texts reading) before outcome after
 
--- What refreshing the book leaves.
+-- The effects of refreshing the token book.
 pub record RefreshedTokens
     (texts : List (List ℕ)) (host : List ℕ) (before : Installed) (peer : PeerView) (result : Result Outcome RefreshFault)
     (after : Installed) (peer_after : PeerView) : Type 0 where

@@ -1,5 +1,6 @@
--- A turn of a poller: its exchanges with the upstream, one after another, and what each of them changes. The first is for the
--- upstream's book; then each slot has two, in order: one for what is new in it, and one that sends the metrics of its environment.
+-- A turn of a poller: its exchanges with the upstream, one after another, and what each of them changes. The first exchange asks for
+-- the token book. Then each slot, which holds one environment, has two: the first asks for the changes of the environment (or, by
+-- the mode of the slot, for its whole feed), and the second sends the metrics of the environment. A tag is an ETag.
 use Rattle.std.specs.Prelude.{◌≡◌, ◌≤◌, ◌+◌, ◌⊎◌, ℕ, Bool, List, [], ◌∷◌, Option, Some, None, Result, Ok, Err, get_or, length, set}
 use Rattle.serde_json.specs.Data.{Data}
 use Rattle.unl_delta.specs.Installing.{Installed}
@@ -13,9 +14,9 @@ use Rattle.unl_refresh.specs.Tokens.{Installs, book_in_reply, tokens_request}
 use Rattle.unl_refresh.specs.declared.outcome.Outcome.{Outcome}
 use Rattle.unl_refresh.specs.SlotParameters.{SlotParameters}
 
--- What a poller works with: the texts of the tokens that may be known, the number of slots, the request parameters of each slot,
--- and the server that is asked for the book. And what it has between two turns: the tag of each slot's next request, and the
--- metrics that are not sent yet.
+-- The state of a poller. Fixed: the texts of the tokens that its book may contain, the number of slots, the request parameters of
+-- each slot, and the host that is asked for the book. Changed by turns: the tag of each slot's next request, and the metrics that
+-- are not sent yet.
 pub record Duty : Type 0 where
   pub known : List (List ℕ)
   pub slots : ℕ
@@ -35,7 +36,7 @@ pub record PollState : Type 0 where
 abbrev pub poll_state : Installed → List (Option (List ℕ)) → Book → PeerView → PollState
 poll_state installed tags metrics peer = record { installed = installed; tags = tags; metrics = metrics; peer = peer }
 
--- The number of places is unchanged, and at most one publication was made.
+-- The number of slots is unchanged, and at most one publication (of a version or a book) was made.
 pub record PublishesAtMostOnce (before after : Installed) : Type 0 where
   pub places : length after.places ≡ length before.places
   pub front : after.front ≤ before.front + 1
@@ -47,7 +48,7 @@ ByResult (Ok u) Done Stopped before after = Done before after
 ByResult (Err e) Done Stopped before after = Stopped before after
 
 -- Memory ran out in an exchange: nothing is installed, at most one connection was made, and the request or a prefix of it was sent.
--- The peer didn't fail. These are the tags after it.
+-- The peer didn't fail. The tags afterwards are `tags_after`.
 pub record StopsPolling (request : List ℕ) (tags_after : List (Option (List ℕ))) (before after : PollState) : Type 0 where
   pub installed : after.installed ≡ before.installed
   pub tags : after.tags ≡ tags_after
@@ -70,7 +71,7 @@ pub record TakesBook (texts : List (List ℕ)) (host : List ℕ) (before after :
   pub tags : after.tags ≡ before.tags
   pub metrics : after.metrics ≡ before.metrics
 
--- Memory ran out while it was asked for the book.
+-- Memory ran out while the server was asked for the book.
 abbrev pub StopsAtBook : List (List ℕ) → List ℕ → PollState → PollState → Type 0
 StopsAtBook texts host before after = StopsPolling (tokens_request texts host) before.tags before after
 
@@ -84,17 +85,17 @@ tag_at tags slot = get_or tags slot None
 abbrev pub slot_request : SlotParameters → Option (List ℕ) → List ℕ
 slot_request parameters tag = refresh_request parameters.delta parameters.host parameters.token tag
 
--- what is installed after what a slot's request with this tag received: the effect of a reply; a fault changes nothing
+-- what is installed after a slot's request with this tag: the effect of the reply; a fault of the peer changes nothing
 abbrev pub installed_after : ℕ → Bool → Option (List ℕ) → Installed → ReplyOrFault → Installed
 installed_after slot delta tag before None = before
 installed_after slot delta tag before (Some reading) = (after_reading slot delta tag before reading).installed
 
--- and the tag of the slot's next request: none after a fault
+-- the tag of the slot's next request after a request with this tag; none after a fault of the peer
 abbrev pub tag_then : ℕ → Bool → Option (List ℕ) → Installed → ReplyOrFault → Option (List ℕ)
 tag_then slot delta tag before None = None
 tag_then slot delta tag before (Some reading) = (after_reading slot delta tag before reading).tag
 
--- One request was made for what is new in the slot, with this tag. The tags of the other slots stay.
+-- One request was made for the changes of the slot's environment, with this tag. The tags of the other slots are unchanged.
 pub record TakesSlot (slot : ℕ) (parameters : SlotParameters) (tag : Option (List ℕ)) (before after : PollState) : Type 0 where
   pub received : ReplyOrFault
   pub meets : Meets received (slot_request parameters tag) before.peer after.peer
@@ -102,13 +103,13 @@ pub record TakesSlot (slot : ℕ) (parameters : SlotParameters) (tag : Option (L
   pub tags : after.tags ≡ set before.tags slot (tag_then slot parameters.delta tag before.installed received)
   pub metrics : after.metrics ≡ before.metrics
 
--- Memory ran out in that request. The slot's next request has no tag.
+-- Memory ran out in the request for the changes of the slot's environment. The slot's next request has no tag.
 abbrev pub StopsRefreshing : ℕ → SlotParameters → Option (List ℕ) → PollState → PollState → Type 0
 StopsRefreshing slot parameters tag before after = StopsPolling (slot_request parameters tag) (set before.tags slot None) before after
 
 -- ---- metrics
 
--- the metrics after what a report of `count` keys received: the keys that the server accepted are dropped
+-- the metrics after a report of `count` keys: the keys that the server accepted are dropped
 abbrev pub metrics_after : List ℕ → ℕ → ReplyOrFault → Book → Book
 metrics_after environment count None book = book
 metrics_after environment count (Some reading) book = book_after environment (sent_by count reading) book
@@ -136,18 +137,18 @@ StopsIfAny (Some (report, count)) parameters before after =
 abbrev pub SendsMetrics : SlotParameters → PollState → PollState → Type 0
 SendsMetrics parameters before after = SendsIfAny (bulk parameters.environment before.metrics) parameters before after
 
--- Memory ran out while they were sent.
+-- Memory ran out while the metrics of the slot's environment were sent.
 abbrev pub StopsSending : SlotParameters → PollState → PollState → Type 0
 StopsSending parameters before after = StopsIfAny (bulk parameters.environment before.metrics) parameters before after
 
 -- ---- the turn
 
--- A request was made for what is new in the slot, with its tag, and then its metrics were sent.
+-- A request was made for the changes of the slot's environment, with the slot's tag, and then the environment's metrics were sent.
 abbrev pub PollsSlot : ℕ → SlotParameters → PollState → PollState → Type 0
 PollsSlot slot parameters before after =
     (middle : PollState) × TakesSlot slot parameters (tag_at before.tags slot) before middle × SendsMetrics parameters middle after
 
--- Memory ran out in one of the two.
+-- Memory ran out in the request for the changes of the slot's environment, or while the environment's metrics were sent.
 abbrev pub StopsAtSlot : ℕ → SlotParameters → PollState → PollState → Type 0
 StopsAtSlot slot parameters before after =
     StopsRefreshing slot parameters (tag_at before.tags slot) before after
@@ -159,7 +160,7 @@ PollsSlotsFrom slot [] before after = after ≡ before
 PollsSlotsFrom slot (parameters ∷ more) before after =
     (middle : PollState) × PollsSlot slot parameters before middle × PollsSlotsFrom (slot + 1) more middle after
 
--- Memory ran out at one of them, and the slots after it were not polled.
+-- Memory ran out at one of the slots from `slot` on, and the slots after it were not polled.
 abbrev pub StopsFrom : ℕ → List SlotParameters → PollState → PollState → Type 0
 StopsFrom slot [] before after = ⊥
 StopsFrom slot (parameters ∷ more) before after =
@@ -177,6 +178,6 @@ StopsInTurn texts host parameters before after =
     StopsAtBook texts host before after
     ⊎ ((middle : PollState) × TakesBook texts host before middle × StopsFrom 0 parameters middle after)
 
--- Only the tags and the metrics change.
+-- Of all that a poller works with, only the tags and the metrics change.
 abbrev pub KeepsDuty : Duty → Duty → Type 0
 KeepsDuty before after = after ≡ record before { tags = after.tags; metrics = after.metrics }

@@ -1,4 +1,4 @@
-//! The request for what is new: its parameters and its text.
+//! The request for a slot's events or feed: its parameters and its text.
 ghost use Rattle.std.specs.Prelude.{◌≡◌, IfOk, IsTrue, option_copied};
 ghost use Rattle.unl_http_api.specs.RequestText.{fits_if_any, fits_line};
 ghost use Rattle.unl_refresh.specs.Refresh.{refresh_request, target_path};
@@ -7,7 +7,7 @@ use std::alloc::Global;
 use unl_documents::{Memory, Text};
 use unl_http_api::{Bytes, Method, write_request};
 
-/// What to request from a server: its host, the token, events or a feed, and the tag of what is already known.
+/// The parameters of a request to a server for events or a feed.
 #[derive(Debug, Drop)]
 pub struct Ask {
     /// The server, as written in the header field `Host`.
@@ -16,11 +16,12 @@ pub struct Ask {
     pub token: Text,
     /// Whether to request events; if false, a whole feed.
     pub delta: bool,
-    /// The tag of the last reply that was applied in full. With it the server can answer 304 instead of sending the same again.
+    /// The entity tag of the last reply that was applied in full, sent as `If-None-Match`. With it the server can
+    /// answer 304 instead of sending the same content again.
     pub tag: Option<Bytes>,
 }
 
-/// Returns the text of the request, with this tag in place of the ask's own.
+/// Returns the text of the request of an ask, with `tag` in place of the ask's own tag.
 #[tactic(auto, unfolding(crate::specs::Refresh::refresh_request))]
 pub(crate) fn request_of(alloc: Global, ask: &Ask, tag: &Option<Bytes>) -> Result<Bytes, Memory>
     requires host { IsTrue (fits_line ask.now.host) }
@@ -39,7 +40,7 @@ pub(crate) fn request_of(alloc: Global, ask: &Ask, tag: &Option<Bytes>) -> Resul
     )
 }
 
-/// Returns the path of the request.
+/// Returns the path of the request, as in the Unleash client API.
 fn target_path(delta: bool) -> &'static str
     ensures target { result.now ≡ target_path delta }
     ensures fits { IsTrue (fits_line result.now) }
@@ -51,7 +52,7 @@ fn target_path(delta: bool) -> &'static str
     }
 }
 
-/// Returns the bytes of the tag, if there is one.
+/// Borrows the bytes of the tag, if there is one.
 fn slice_of(tag: &Option<Bytes>) -> Option<&[u8]>
     ensures { option_copied result ≡ tag.now }
 {

@@ -1,5 +1,6 @@
-//! The requests of one poll: refreshing the book and the slots, and sending metrics. A fault of the peer fails no call; the
-//! only error is out of memory.
+//! The requests of one turn: they refresh the token book and the slots, and send metrics. A slot is the index of an
+//! environment. The front is the number of publications so far. A fault of the peer is not an error of these functions;
+//! their only error is out of memory.
 ghost use Rattle.std.specs.Prelude.{◌≡◌, ◌≢◌, ◌<◌, ◌≤◌, ◌+◌, ◌-◌, ◌^◌, ℕ, Err, IsTrue, List, OnErr, OnOk, Option, length, map, set};
 ghost use Rattle.unl_delta.specs.Installing.{Installed};
 ghost use Rattle.unl_http_api.specs.RequestText.{fits_line};
@@ -18,7 +19,8 @@ use unl_delta::Installer;
 use unl_documents::{List, Memory, Text};
 use unl_metrics::MetricsBook;
 
-/// Makes one request for the book of these tokens, unless the front is at its maximum.
+/// Makes one request that asks which of these tokens the server knows, and publishes the book of the known ones if it
+/// differs from the current book. Makes no request if the front is at its maximum, 2^64 - 1.
 pub(crate) fn refresh_book<I: Installer, P: Peer>(
     alloc: Global,
     to: &mut I,
@@ -46,7 +48,8 @@ pub(crate) fn refresh_book<I: Installer, P: Peer>(
     unless_memory(kept)
 }
 
-/// Makes one request for what is new in a slot, unless the front is at its maximum.
+/// Makes one request for what is new in the environment of a slot, and applies the reply. Makes no request if the front
+/// is at its maximum, 2^64 - 1.
 fn refresh_slot<I: Installer, P: Peer>(
     alloc: Global,
     to: &mut I,
@@ -131,7 +134,7 @@ fn poll_slot<I: Installer, P: Peer>(
     }
 }
 
-/// Does the same for each slot that has a poller.
+/// Calls `poll_slot` for each slot that has a poller, in order.
 pub(crate) fn poll_slots<I: Installer, P: Peer>(
     alloc: Global,
     to: &mut I,

@@ -11,7 +11,12 @@ use std::alloc::Global;
 use unl_delta::{BadBatch, Batch, of_feed, read_batch_bytes};
 use unl_documents::{BadDocument, Memory, read_feed};
 
-/// Reads a body as a batch: a batch of events if events were requested, else a feed as one hydration.
+/// Reads a body as a batch. If `delta`, events were requested, and the body is a batch of events; otherwise it is a
+/// feed, which becomes one hydration. `held` is the number of the slot's version, if it has one. The inner error says
+/// why the body can't be read.
+///
+/// # Errors
+/// `Memory`: out of memory.
 pub(crate) fn read_batch(
     alloc: Global,
     delta: bool,

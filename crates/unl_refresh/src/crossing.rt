@@ -1,4 +1,4 @@
-//! Proofs that the ends of a metrics queue can be sent to another thread.
+//! Proofs that the two ends of a metrics queue, its sender and its receiver, can be sent to another thread.
 ghost use denote.Ref.{NamedLft};
 ghost use Rattle.std.specs.Thread.{IsSend, IsSync};
 ghost use Rattle.unl_refresh.specs.Crossing.{pass_type};
@@ -34,7 +34,7 @@ fn books_are_send()
     send_of::<MetricsBook>()
 }
 
-/// A pass is `Send`.
+/// A pass, the right of one thread to use a metrics queue, is `Send`.
 fn passes_are_send()
     ensures { IsSend pass_type }
 {
@@ -42,8 +42,8 @@ fn passes_are_send()
     send_of::<MetricsPass>()
 }
 
-/// The ends of a metrics queue can be sent to another thread. A caller that sends one calls this first, to have the fact. Does nothing
-/// at run time.
+/// The ends of a metrics queue can be sent to another thread. A caller that sends one calls this first, to have the
+/// fact. Does nothing at run time.
 pub fn metrics_ends_are_send()
     ensures sender { (lifetime : NamedLft) → IsSend (SenderType.the_row lifetime) }
     ensures receiver { (lifetime : NamedLft) → IsSend (ReceiverType.the_row lifetime) }

@@ -12,10 +12,11 @@ use unl_base::{Failed, Peer, write_all};
 use unl_documents::Memory;
 use unl_http_api::{BadReply, Got, ReplyReader};
 
-/// The size of one read, in bytes.
+/// The size of one read, in bytes. Chosen by this project.
 const PIECE: usize = 16_384;
 
-/// With this many bytes received, the reading of the reply is decided, whatever follows.
+/// The number of received bytes after which no further byte changes how the reply is parsed: one more than a head of
+/// 8192 bytes and a body of 16 MiB, the limits of `unl_http_api`.
 const ENOUGH: usize = 16_785_409;
 
 /// Connects to a peer, sends a request and reads the reply. Reading stops at the end of the stream, or once the bytes

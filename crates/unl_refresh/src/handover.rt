@@ -1,13 +1,15 @@
-//! What each thread knows of the metrics that passed through a queue.
+//! Ghost types for a queue of metrics books: what each thread knows of the books that passed through it, and the
+//! queue's rule.
 
 use crossbeam_queue::protocol::{Join, Lesson, Outcome, Protocol, Split};
 use std::collections::LinkedList;
 use unl_metrics::MetricsBook;
 
-/// The books that the holder of a pass has put into a queue and taken from it. It is used only in contracts; no value of it is
-/// created.
+/// What a pass knows: the books that were put into a queue and taken from it with this pass. A pass is the right of one
+/// thread to use a queue. This type is used only in contracts; no value of it is created.
 pub struct Handover {
-    /// The number of parts of this pass. All passes of a queue together have 2^64. (In contracts it is a natural number.)
+    /// The number of parts of this pass. All passes of a queue together have 2^64, so a pass with all of them knows
+    /// every book that was put or taken. (In contracts it is a natural number, so it can be 2^64.)
     pub parts: u64,
     /// The books that were put, in order.
     pub handed: LinkedList<MetricsBook>,
@@ -27,7 +29,7 @@ impl Protocol<MetricsBook, Handover> for ConservedBooks {
     ghost first = { first_handover };
 }
 
-/// What putting a book does to a pass.
+/// The effect of putting a book: the pass knows it as put.
 pub struct PutsBook;
 
 impl Outcome<MetricsBook, Handover> for PutsBook {
@@ -41,7 +43,7 @@ impl Lesson<MetricsBook, Handover> for PutsBook {
     ghost fact = { λ v items. Unit {0} };
 }
 
-/// What taking a book does to a pass.
+/// The effect of taking a book: the pass knows it as taken.
 pub struct TakesBook;
 
 impl Outcome<MetricsBook, Handover> for TakesBook {

@@ -1,4 +1,4 @@
-//! Sending metrics to a server.
+//! Sends the metrics of an environment to a server.
 ghost use Rattle.std.specs.Prelude.{◌≡◌, ◌≢◌, List, ℕ, Some, None, Result, Option, IfOk, IfErr, IfSome, IsTrue};
 ghost use Rattle.std.specs.Prelude.{option_map, false};
 ghost use Rattle.serde_json.specs.View.{view};
@@ -24,9 +24,9 @@ use unl_documents::Memory;
 use unl_http_api::{BadReply, Bytes, Got, Method, write_request};
 use unl_metrics::MetricsBook;
 
-/// Sends one report of the metrics of an environment, with as many keys as one report has room for. If the server accepts
-/// the report, these keys are dropped from the book; otherwise the book is unchanged. If the environment has no keys, the
-/// peer isn't contacted.
+/// Sends one report of the metrics of an environment, with as many keys as one report has room for. If the server
+/// accepts the report (status 200 or 202), these keys are dropped from the book; otherwise the book is unchanged. If
+/// the environment has no keys, the peer isn't contacted.
 ///
 /// # Errors
 /// `PeerFault` if the peer can't be connected to, written to or read; `Memory` if out of memory.
@@ -85,7 +85,7 @@ fn send<P: Peer>(
     Ok(outcome)
 }
 
-/// Sends a report, if there is one, with the count of its keys.
+/// Sends the report in `found`, if there is one. The number in `found` is the count of the report's keys.
 fn send_found<P: Peer>(
     alloc: Global,
     found: Option<(Value, usize)>,

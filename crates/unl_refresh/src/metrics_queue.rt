@@ -1,4 +1,4 @@
-//! A queue of metrics that wait for the poller.
+//! The queue through which worker threads hand over metrics books to the poller.
 ghost use Rattle.std.specs.Prelude.{◌≡◌, ◌<◌, ◌^◌, ◌++◌, List, IfOk, MatchOption, MatchResult};
 ghost use Rattle.crossbeam_queue.specs.Passes.{IsSamePass};
 ghost use Rattle.unl_metrics.specs.Book.{Book};
@@ -12,7 +12,7 @@ use std::sync::Wait;
 use unl_documents::Memory;
 use unl_metrics::MetricsBook;
 
-/// The number of books that can wait.
+/// The number of books that can wait. Chosen by this project.
 pub(crate) const MOST_BOOKS: usize = 64;
 
 /// The right of one thread to use a queue, with what that thread put and took. It is zero-sized.
@@ -38,7 +38,8 @@ impl MetricsQueue {
         Ok((MetricsQueue { books }, pass))
     }
 
-    /// Returns a pass for another thread: one part of this pass, which has put and taken nothing.
+    /// Splits one part off this pass and returns it as a pass for another thread. The new pass has put and taken
+    /// nothing.
     pub(crate) fn split_pass(&self, pass: &mut MetricsPass) -> MetricsPass
         requires queue { IsPassOfMetrics self.now pass.old }
         requires parts { 1 < (known_by pass.old).parts }
@@ -59,7 +60,7 @@ impl MetricsQueue {
         self.books.absorb::<Parts>(pass, other)
     }
 
-    /// Appends a book, or returns it (where 64 books wait; no contract says when).
+    /// Appends a book, or returns it if 64 books already wait. (The contract allows both cases at any time.)
     pub(crate) fn put<W: Wait>(
         &self,
         rt: &W,
@@ -94,7 +95,8 @@ impl MetricsQueue {
         }
     }
 
-    /// Does nothing at run time. Proves that, if the pass has all parts, the books put are those taken and those that wait.
+    /// Does nothing at run time. Proves that, if the pass has all parts, the books put are those taken and those that
+    /// wait.
     pub(crate) fn all_counted(&self, pass: &mut MetricsPass)
         requires queue { IsPassOfMetrics self.now pass.old }
         requires whole { (known_by pass.old).parts ≡ 2 ^ 64 }

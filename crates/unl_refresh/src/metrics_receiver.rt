@@ -1,4 +1,7 @@
-//! The receiving end of a metrics queue, where books are taken.
+//! The receiving end of a metrics queue: the poller takes the books here that worker threads put into the queue.
+//!
+//! The right to use a queue is divided into 2^64 parts. The receiver starts with all of them, and each sender gets one.
+//! A pass holds parts of a queue, and in contracts also the books that were put and taken with it.
 ghost use Rattle.std.specs.Prelude.{◌≡◌, ◌<◌, ◌^◌, ◌+◌, ◌-◌, ◌++◌, List, None, MatchOption};
 ghost use Rattle.unl_metrics.specs.Book.{Book, sum_of};
 ghost use Rattle.unl_refresh.specs.MetricsQueues.{IsPassOfMetrics, Merges, known_by, new_receiving, new_sending, taking_in};
@@ -11,11 +14,15 @@ use std::marker::Model;
 use std::sync::Wait;
 use unl_metrics::MetricsBook;
 
-/// Takes metrics that senders in other threads handed over. Contracts see which books it has taken.
+/// Takes the metrics books that senders in other threads put into the queue.
+///
+/// Its value in contracts has the number of its parts (`parts`), the books put into the queue by senders that were
+/// taken back (`handed`), and the books that it has taken (`intake`).
 #[derive(Drop)]
 pub struct MetricsReceiver<'a> {
     queue: &'a MetricsQueue,
     pass: MetricsPass,
+    /// The book that was taken last, if it is not merged yet.
     held: Option<MetricsBook>,
 }
 
@@ -36,7 +43,7 @@ impl<'a> Model for MetricsReceiver<'a> {
 }
 
 impl<'a> MetricsReceiver<'a> {
-    /// The receiver of a new queue, without senders.
+    /// Creates the receiver of a new queue, without senders.
     pub fn new(queue: &'a MetricsQueue, pass: MetricsPass) -> MetricsReceiver<'a>
         requires queue { IsPassOfMetrics queue.now pass }
         requires new { known_by pass ≡ first_handover }
@@ -49,7 +56,7 @@ impl<'a> MetricsReceiver<'a> {
         }
     }
 
-    /// Returns a sender for another thread. It gets one of this receiver's parts.
+    /// Returns a sender for another thread. One of this receiver's parts moves to the sender.
     pub fn new_sender(&mut self) -> MetricsSender<'a>
         requires { 1 < self.old.parts }
         ensures left { self.new ≡ record self.old { parts = self.old.parts - 1 } }
@@ -59,7 +66,8 @@ impl<'a> MetricsReceiver<'a> {
         MetricsSender::new(self.queue, pass)
     }
 
-    /// Takes a sender back, with its part and the books that it handed over.
+    /// Consumes a sender. Its part returns to this receiver, and the books that it put into the queue are added to
+    /// `handed`.
     pub fn take_back(&mut self, sender: MetricsSender<'_>)
         requires { sender.queue ≡ self.old.queue }
         ensures { self.new ≡ record self.old { parts = self.old.parts + 1; handed = self.old.handed ++ sender.entry.handed } }
@@ -68,8 +76,9 @@ impl<'a> MetricsReceiver<'a> {
         self.queue.join_pass(&mut self.pass, pass);
     }
 
-    /// Takes the books that wait, at most 64, and merges them into `book`, one after another. One that wouldn't fit, or for which there
-    /// is no memory, is held until the next call, and no other is taken before it is merged.
+    /// Takes the books that wait, at most 64, and merges them into `book`, one after another. If a taken book doesn't
+    /// fit, or memory runs out, the receiver holds that book until the next call. It takes no other book before that
+    /// one is merged.
     pub fn merge_into<W: Wait>(&mut self, alloc: Global, rt: &W, book: &mut MetricsBook)
         ensures same { self.new ≡ record self.old { intake = self.new.intake } }
         ensures merges { Merges book.old self.old.intake book.new self.new.intake }
@@ -82,8 +91,8 @@ impl<'a> MetricsReceiver<'a> {
         self.merge_held(alloc, book);
     }
 
-    /// Merges the book that is held into `book`, and then takes the next one to hold it. Returns whether it took one
-    /// (no contract says so).
+    /// Merges the held book into `book`, if there is one. If no book is held then, takes the next one and holds it.
+    /// Returns whether it took one (no contract says so).
     fn merge_and_take<W: Wait>(&mut self, alloc: Global, rt: &W, book: &mut MetricsBook) -> bool
         ensures same { self.new ≡ record self.old { intake = self.new.intake } }
         ensures merges { Merges book.old self.old.intake book.new self.new.intake }
@@ -102,7 +111,8 @@ impl<'a> MetricsReceiver<'a> {
         }
     }
 
-    /// No book may be held. Takes the oldest one that waits and holds it. The code returns whether there was one (no contract says so).
+    /// Takes the oldest book that waits, and holds it. The receiver must not hold a book before. Returns whether a book
+    /// waited (no contract says so).
     fn take_next<W: Wait>(&mut self, rt: &W) -> bool
         requires { self.old.intake.held ≡ None }
         ensures { MatchOption self.new.intake.held
@@ -118,8 +128,8 @@ impl<'a> MetricsReceiver<'a> {
         }
     }
 
-    /// Consumes the receiver, and does nothing else at run time. Proves that, if the receiver has all parts (all senders are back),
-    /// the books handed over are those taken and those that wait.
+    /// Consumes the receiver, and does nothing else at run time. Proves that, if the receiver has all parts (all
+    /// senders are back), the books handed over are those taken and those that wait.
     pub fn all_counted(self)
         requires { self.parts ≡ 2 ^ 64 }
         ensures { (waiting : List Book) × SameBooks self.entry.handed (self.entry.intake.taken ++ waiting) }

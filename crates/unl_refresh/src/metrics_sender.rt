@@ -9,7 +9,8 @@ use std::marker::Model;
 use std::sync::Wait;
 use unl_metrics::MetricsBook;
 
-/// Hands metrics over to a receiver in another thread. Contracts see which books it has handed over.
+/// Hands metrics books over to a receiver in another thread. In contracts its value has the books that it has handed
+/// over.
 #[derive(Drop)]
 pub struct MetricsSender<'a> {
     queue: &'a MetricsQueue,
@@ -39,8 +40,8 @@ impl<'a> MetricsSender<'a> {
         MetricsSender { queue, pass }
     }
 
-    /// Hands a book over and empties it, or keeps it (where 64 books wait or it is empty; no contract says when). If it is kept,
-    /// the book stays unchanged.
+    /// Puts the book into the queue and leaves an empty book in its place. If the book is empty, or if 64 books already
+    /// wait, it is not handed over and stays unchanged. (The contract allows both cases at any time.)
     pub fn hand_over<W: Wait>(&mut self, alloc: Global, rt: &W, book: &mut MetricsBook)
         ensures same { self.new ≡ record self.old { handed = self.new.handed } }
         ensures hands_over { HandsOver self.old.handed book.old self.new.handed book.new }
@@ -55,7 +56,7 @@ impl<'a> MetricsSender<'a> {
         }
     }
 
-    /// Returns the pass.
+    /// Consumes the sender and returns its pass.
     pub(crate) fn into_pass(self) -> MetricsPass
         ensures same { result.table_id ≡ self.entry.queue }
         ensures unused { result.me.1 ≡ [] }

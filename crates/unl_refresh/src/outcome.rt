@@ -12,17 +12,17 @@ use unl_tokens::BadBook;
 /// The outcome of a refresh.
 #[derive(Debug, Drop, PartialEq)]
 pub enum Outcome {
-    /// The reply was published. This is the new front.
+    /// The reply was published. Carries the new front: the number of publications that led to the new board.
     Published(u64),
     /// The server has nothing new: status 304.
     Unchanged,
-    /// The slot or the board already has all of it.
+    /// The slot already has the whole batch, or the board already has the same token book.
     Repeat,
-    /// It is older than what the slot has.
+    /// The batch is older than the slot's version.
     Old,
     /// Events between the slot's version and the batch are missing. The slot is now held.
     Gap,
-    /// The slot is held until a hydration comes.
+    /// The slot is held: after a gap only a hydration can be applied to it.
     Held,
     /// The server answered with a status other than 200 (and, for a batch or feed, other than 304).
     Refused(u16),
@@ -39,7 +39,7 @@ pub enum Bad {
     /// The body is not a feed.
     #[error("the body is not a feed")]
     Feed(BadDocument),
-    /// The body is a feed without a number.
+    /// The body is a feed without a revision number.
     #[error("the feed has no number")]
     NoNumber,
     /// The body is not a batch.
@@ -63,7 +63,7 @@ pub enum MetricsOutcome {
     BadAnswer(BadReply),
 }
 
-/// Why a call failed.
+/// Why a refresh failed, or why metrics could not be sent.
 #[derive(Clone, Copy, Debug, PartialEq, Eq, Error)]
 pub enum RefreshFault {
     /// A call of the peer failed and incremented its fault count.

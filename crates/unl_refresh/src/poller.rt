@@ -1,4 +1,4 @@
-//! The state that keeps a board up to date.
+//! The poller: in each of its turns it refreshes a board from an upstream server and sends metrics to that server.
 ghost use Rattle.std.specs.Prelude.{◌≡◌, ◌<◌, ◌≤◌, ◌+◌, ◌-◌, ◌^◌, [], All, IfOk, IsTrue, OnOk, length};
 ghost use Rattle.unl_http_api.specs.RequestText.{fits_line};
 ghost use Rattle.unl_refresh.specs.Connects.{Connects};
@@ -19,8 +19,8 @@ use unl_delta::Installer;
 use unl_documents::{List, Memory, Text};
 use unl_metrics::MetricsBook;
 
-/// The pollers of a board's slots, the texts of the tokens that may be known, the upstream server, and the metrics that aren't
-/// sent yet.
+/// Keeps a board up to date with an upstream server. It has a poller for each slot of the board, the texts of the
+/// tokens that the token book may contain, the server's address, and the metrics that aren't sent yet.
 #[derive(Drop)]
 pub struct Poller {
     slot_pollers: Vec<SlotPoller>,
@@ -50,8 +50,10 @@ impl Model for Poller {
 }
 
 impl Poller {
-    /// Creates the state for a board with one slot for each of the upstream's tokens; `environments` are those of the slots. The
-    /// upstream is at its `HOST:PORT`. `delta` selects requests for changes; otherwise whole feeds. The metrics are empty.
+    /// Creates the poller of a board that has one slot for each of `upstream_tokens`. `environments` are the
+    /// environments of the slots, in the same order. `upstream` is the server's `HOST:PORT`. `tokens` are the texts of
+    /// the tokens that the token book may contain. With `delta` the requests are for changes, otherwise for whole
+    /// feeds. The metrics are empty.
     ///
     /// # Errors
     /// `Memory` if out of memory.
@@ -86,8 +88,8 @@ impl Poller {
         })
     }
 
-    /// Makes one request for the book and one for each slot, publishes the replies, and sends the metrics. A fault of the
-    /// upstream doesn't end the turn.
+    /// Makes one request for the token book and one for each slot, publishes the replies, and sends the metrics. A
+    /// fault of the upstream doesn't end the turn.
     ///
     /// # Errors
     /// `Memory` if out of memory. The turn ends then.
@@ -100,8 +102,8 @@ impl Poller {
         // The tags of the next requests and the metrics may change, and nothing else.
         ensures same { KeepsDuty self.old self.new }
 
-        // Unless the front is near its maximum: each exchange is made in order, with its request and its effect, whether it
-        // got a reply or the peer failed.
+        // Unless the front (the number of publications so far) is near its maximum, 2^64 - 1: each exchange is made in
+        // order, with its request and its effect, whether it got a reply or the peer failed.
         ensures polls { (I.installed to.old).front + self.old.slots + 1 < 2 ^ 64 - 1
             → self.old.slots ≤ length (I.installed to.old).places
             → ByResult result (MakesTurn self.old.known self.old.upstream self.old.slot_pollers)
@@ -111,7 +113,8 @@ impl Poller {
             (poll_state (I.installed to.new) self.new.tags self.new.metrics
             (peer_view (P.state peer.new) (P.Source.faults peer.new))) }
 
-        // So if memory did not run out, at least one connection for the book and one for each slot is made, unless the peer failed.
+        // So if memory did not run out, at least one connection for the book and one for each slot is made, unless the
+        // peer failed.
         ensures asks { (I.installed to.old).front + self.old.slots + 1 < 2 ^ 64 - 1
             → self.old.slots ≤ length (I.installed to.old).places → OnOk result (Connects (self.old.slots + 1)
             (P.state peer.old).replies (P.Source.faults peer.old) (P.state peer.new).replies (P.Source.faults peer.new)) }
@@ -124,8 +127,8 @@ impl Poller {
         }
     }
 
-    /// Takes the metrics that wait at a receiver, and adds them to those that aren't sent yet. What wouldn't fit, or for which
-    /// there is no memory, stays at the receiver.
+    /// Takes the metrics books that wait at a receiver, and adds them to the metrics that aren't sent yet. A book that
+    /// doesn't fit, or that memory runs out for, stays at the receiver.
     pub fn take_metrics<W: Wait>(
         &mut self,
         alloc: Global,

@@ -1,4 +1,4 @@
-//! Refreshing a slot.
+//! Refreshes one slot from a server.
 ghost use Rattle.std.specs.Prelude.{◌<◌, ◌-◌, ◌^◌, IsTrue, length};
 ghost use Rattle.unl_http_api.specs.RequestText.{fits_if_any, fits_line};
 ghost use Rattle.unl_refresh.specs.Exchange.{HasPeerCause, peer_view};
@@ -12,14 +12,18 @@ use std::alloc::Global;
 use unl_base::Peer;
 use unl_delta::Installer;
 
-/// Makes one request for what is new, and applies the reply to a slot: a batch of events, or a feed as one hydration. A
-/// batch that applies is published by one install. After a gap the slot is held; in all other outcomes it is unchanged.
+/// Makes one request for what is new in a slot, and applies the reply: a batch of events, or a feed as one hydration. A
+/// batch that applies is published by one install. If the batch doesn't continue the slot's version (verdict
+/// [`Gap`](unl_delta::Verdict::Gap)), the slot is held: it ignores changes until a hydration applies. In all other
+/// outcomes it is unchanged.
 ///
-/// The ask's tag becomes the reply's tag if the reply was published or the slot already had all of it. It is kept if the
-/// server had nothing new or refused. In all other cases it is removed, so that the server sends everything next time.
+/// The ask's tag becomes the reply's tag if the reply was published or the slot already had all of it. It is kept if
+/// the server had nothing new or refused. In all other cases it is removed, so that the server sends everything next
+/// time.
 ///
 /// # Errors
-/// `PeerFault` if the peer can't be connected to, written to or read; `Memory` if out of memory. Nothing is applied then.
+/// `PeerFault` if the peer can't be connected to, written to or read; `Memory` if out of memory. Nothing is applied
+/// then.
 pub fn refresh_once<I: Installer, P: Peer>(
     alloc: Global,
     to: &mut I,
@@ -49,7 +53,8 @@ pub fn refresh_once<I: Installer, P: Peer>(
         (refresh_state (I.installed to.new) ask.new
         (peer_view (P.state peer.new) (P.Source.faults peer.new))) }
 
-    // If the server sends batches from a line of histories, the slot has one revision of that line.
+    // If the slot's version, if any, represents a line of histories and the server sends batches from that line, the
+    // new version represents the line too. [`unl_delta::verdict`] explains lines.
     ensures delivery { Delivers slot
         (refresh_state (I.installed to.old) ask.old
         (peer_view (P.state peer.old) (P.Source.faults peer.old)))

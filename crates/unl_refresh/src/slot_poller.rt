@@ -6,17 +6,19 @@ use crate::Ask;
 use std::alloc::Global;
 use unl_documents::{Memory, Text};
 
-/// The environment of a slot, and the request that refreshes it.
+/// The environment of a slot, and the parameters of the request that refreshes the slot.
 #[derive(Drop)]
 pub(crate) struct SlotPoller {
+    /// The name of the environment.
     pub environment: Text,
+    /// The parameters of the next request.
     pub ask: Ask,
     ghost host: { IsTrue (fits_line ask.host) },
     ghost token: { IsTrue (fits_line ask.token) },
     ghost tag: { IsTrue (fits_if_any ask.tag) },
 }
 
-/// Returns a poller that uses a token.
+/// Creates the poller of a slot for `environment`. Its first ask is to `host`, with `token` and without a tag.
 pub(crate) fn poller_with(
     alloc: Global,
     host: &Text,
@@ -35,7 +37,7 @@ pub(crate) fn poller_with(
     Ok(SlotPoller { environment, ask })
 }
 
-/// Returns an ask for a server and a token, without a tag.
+/// Creates the first ask to a server: with a token, for events if `delta` and otherwise for a feed, and without a tag.
 ///
 /// # Errors
 /// `Memory` if out of memory.

@@ -1,4 +1,5 @@
-//! The pollers of all slots of a board.
+//! Creates the pollers of all slots of a board. The poller of a slot has the slot's environment and the parameters of
+//! the request that refreshes the slot.
 ghost use Rattle.std.specs.Prelude.{◌≡◌, All, IfOk, IsTrue, length, map};
 ghost use Rattle.unl_http_api.specs.RequestText.{fits_line};
 ghost use Rattle.unl_refresh.specs.SlotParameters.{no_tags, parameters_of, slot_parameters, tag_of};
@@ -7,7 +8,11 @@ use crate::slot_poller::{SlotPoller, poller_with};
 use std::alloc::Global;
 use unl_documents::{List, Memory, Text};
 
-/// Returns one poller for each token, in the order of the tokens. The environments are in the same order.
+/// Returns one poller for each token, in the order of the tokens. `environments` has the environment of each token, in
+/// the same order. With `delta`, the pollers request events, otherwise whole feeds.
+///
+/// # Errors
+/// `Memory`: out of memory.
 pub(crate) fn slot_pollers(
     alloc: Global,
     host: &Text,
@@ -32,7 +37,7 @@ pub(crate) fn slot_pollers(
     )
 }
 
-/// Returns one poller for each token.
+/// As [`slot_pollers`], for slices.
 fn pollers_of(
     alloc: Global,
     host: &Text,

@@ -1,4 +1,4 @@
-//! Applying a server's reply to a slot.
+//! Applies a server's reply to a slot.
 ghost use Rattle.std.specs.Prelude.{◌≡◌, ◌≢◌, ◌<◌, ◌-◌, ◌^◌, Some, None, IfOk, IfErr, OnErr, IsTrue, length};
 ghost use Rattle.unl_delta.specs.Batch.{verdict_of};
 ghost use Rattle.unl_delta.specs.Installing.{place_of};
@@ -17,11 +17,13 @@ use unl_http_api::{BadReply, Bytes, Got};
 /// The outcome of a reply, and the tag for the next request.
 #[derive(Drop)]
 pub(crate) struct AppliedReply {
+    /// What the reply resulted in.
     pub(crate) outcome: Outcome,
+    /// The tag for the next request, if it has one.
     pub(crate) tag: Option<Bytes>,
 }
 
-/// Applies a parsed reply. `tag` is the tag that the request had.
+/// Applies the result of parsing a reply. `tag` is the tag that the request had.
 pub(crate) fn take_reading<I: Installer>(
     alloc: Global,
     to: &mut I,
@@ -57,7 +59,7 @@ fn unread(bad: Bad) -> AppliedReply
     }
 }
 
-/// Applies a reply.
+/// Applies a parsed reply, by its status and body.
 fn take_reply<I: Installer>(
     alloc: Global,
     to: &mut I,
@@ -107,7 +109,7 @@ fn number_held<I: Installer>(to: &I, slot: usize) -> Option<u64>
     }
 }
 
-/// Applies a batch that came with a tag.
+/// Applies a batch. `tag` is the tag of the reply that the batch came in.
 fn follow_batch<I: Installer>(
     alloc: Global,
     to: &mut I,

@@ -1,4 +1,4 @@
-//! Refreshing the book of tokens.
+//! Refreshes the token book from a server.
 ghost use Rattle.std.specs.Prelude.{◌≡◌, ◌≢◌, ◌<◌, ◌-◌, ◌^◌, List, ℕ, Some, Err, Result, IfOk, IfErr, OnErr, IsTrue, drop};
 ghost use Rattle.std.specs.Prelude.{option_map};
 ghost use Rattle.unl_base.specs.Doors.{next_of};
@@ -21,13 +21,15 @@ use unl_documents::{List, Memory, Text};
 use unl_http_api::{BadReply, Bytes, Got, Method, write_request};
 use unl_tokens::{BadBook, Book, write_request as write_texts};
 
-/// Asks a server once which of these tokens it knows, and keeps of its book only the tokens with these texts. If the
-/// result differs from the current book, it is published, and the outcome is `Published` with the new front. Otherwise
-/// nothing changes, and the outcome is `Repeat` for the same book, `Refused` for a status other than 200, or `BadAnswer`
-/// for a reply that can't be parsed.
+/// Asks a server once which of these tokens it knows (`POST /edge/validate`, as in Unleash Edge), and keeps from the
+/// book in its reply only the tokens with these texts. If the result differs from the current book, it is published,
+/// and the outcome is `Published` with the new front (the number of publications so far). Otherwise nothing changes,
+/// and the outcome is `Repeat` for the same book, `Refused` for a status other than 200, or `BadAnswer` for a reply
+/// that can't be parsed.
 ///
 /// # Errors
-/// `PeerFault` if the peer can't be connected to, written to or read; `Memory` if out of memory. Nothing is applied then.
+/// `PeerFault` if the peer can't be connected to, written to or read; `Memory` if out of memory. Nothing is applied
+/// then.
 pub fn refresh_tokens<I: Installer, P: Peer>(
     alloc: Global,
     to: &mut I,
@@ -49,7 +51,7 @@ pub fn refresh_tokens<I: Installer, P: Peer>(
         → IsReply (next_of list) reading
         → IfOk result (λ outcome. Installs (book_in_reply texts.now reading) (I.installed to.old) outcome (I.installed to.new)) }
 
-    // Unless the peer failed or memory ran out, exactly one reply is used up.
+    // Unless the peer failed or memory ran out, exactly one reply is taken from the peer's replies.
     ensures one_reply { ¬ (Rose (P.Source.faults peer.old) (P.Source.faults peer.new)) → result ≢ Err RefreshFault.Memory
         → (P.state peer.new).replies ≡ option_map (λ list. drop 1 list) (P.state peer.old).replies }
 
