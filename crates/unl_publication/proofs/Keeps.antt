@@ -1,4 +1,4 @@
--- Each kind of step keeps the invariant.
+-- Each step of the writer or of a reader keeps the invariant `IsKept`.
 use Rattle.std.proofs.Common.{◌≡◌, ℕ, zero, suc, ◌+◌, ◌≤◌, ◌≢◌, List, [], ◌∷◌, ◌++◌, length, fold, set, Option, Some, None, IfSome, refl, sym, ap, ◌∙◌, subst, ⊎_elim, le_refl, le_trans, add-zero, zero-le, append_assoc, append-nil, length-append, arith}
 use Rattle.std.proofs.lemmas.List.Sums.{fold-append}
 use mathlib.Core.Option.{some, some-injective, some-ne-none}
@@ -44,13 +44,13 @@ module _ {S I : Type 0} (installed : S → I → S) (allows : S → I → Type 0
   AreAllowed-append value [] more first later = later
   AreAllowed-append value (what ∷ list) more first later = (first.0, AreAllowed-append (installed value what) list more first.1 later)
 
-  -- If the kept value allows the list, so does the opening value, where it is known.
+  -- If a list is allowed from a value on, it is allowed from the known opening value on, which is the same value.
   knows_allowed : (opening : Option S) (kept : S) (list : List I) → ((o : S) → opening ≡ Some o → o ≡ kept) → AreAllowed installed allows kept list
       → IfSome opening (λ o. AreAllowed installed allows o list)
   knows_allowed None kept list opened allowed = tt
   knows_allowed (Some o) kept list opened allowed = subst (λ (s : S). AreAllowed installed allows s list) (sym (opened o refl)) allowed
 
-  -- One install is a list.
+  -- A list of one install is allowed if the install is.
   pub AreAllowed-one : (value : S) (what : I) (given : List I) → given ≡ what ∷ [] → allows value what → AreAllowed installed allows value given
   AreAllowed-one value what given is allowed = subst (AreAllowed installed allows value) (sym is) (allowed, tt)
 
@@ -143,11 +143,6 @@ module _ {S I : Type 0} where
             front_is = k.front_is;
           },
         )
-
-    -- A reader that knows as many installs as the front counts knows the whole list, as the writer does.
-    pub knows_all : (value : S) (views : List (Knowledge S I)) (k : IsKept installed front_of allows value views) (seat : ℕ) (v : Knowledge S I) → get_elem? views seat ≡ some v
-        → front_of value ≡ length v.installs → v.installs ≡ k.list
-    knows_all value views k seat v at whole = sym (StartsWith-whole k.list v.installs (k.fits seat v at).seen (sym whole ∙ k.front_is))
 
     counted : ((s : S) (what : I) → front_of (installed s what) ≡ front_of s + 1) → (s : S) (given : List I) → front_of (fold installed s given) ≡ front_of s + length given
     counted counts s [] = sym (add-zero (front_of s))

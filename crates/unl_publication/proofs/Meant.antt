@@ -1,4 +1,4 @@
--- How a look changes what a reader's knowledge means.
+-- How a look changes the values that a reader knows.
 use Rattle.std.proofs.Common.{◌≡◌, ℕ, zero, suc, ◌<◌, ◌≤◌, leb, List, [], ◌∷◌, length, take, fold, Bool, true, false, Option, Some, None, refl, sym, ap, ◌∙◌, subst, arith, take_all, is_some, inl, inr}
 use Rattle.std.specs.Option.{option_map}
 use Rattle.std.proofs.lemmas.List.{take-append-le}
@@ -38,7 +38,7 @@ module _ {S I : Type 0} (installed : S → I → S) where
   abbrev after_list : List I → Option S → ℕ → Option S
   after_list list opening k = option_map (λ o. fold installed o (take k list)) opening
 
-  -- What was known is still known, and is the same.
+  -- A value that was known at the last look is known after this one.
   keeps : (past : Option (Knowledge S I)) (v w : Knowledge S I) → IsAhead past v → Takes installed past v w → (k : ℕ) (b : S)
       → value_at installed (known past v) k ≡ Some b → value_at installed w k ≡ Some b
   keeps None v w ahead t k b e =
@@ -71,7 +71,7 @@ module _ {S I : Type 0} (installed : S → I → S) where
     keeps = keeps past v w ahead t;
   }
 
-  -- The value shown is known.
+  -- The value that a look shows is known.
   pub value_at-here : (w : Knowledge S I) (opening : S) → length w.before ≤ length w.installs → w.opening ≡ Some opening → value_at installed w (front_seen w) ≡ Some (fold installed opening w.installs)
   value_at-here w opening short is =
       let n : ℕ = length w.installs in
@@ -84,15 +84,15 @@ module _ {S I : Type 0} (installed : S → I → S) where
   shown_here w value (Some opening) is there short means = value_at-here w opening short is ∙ sym (ap (λ (s : S). Some s) (means opening is))
   shown_here w value None is there short means = absurd cc
 
-  -- A reader that looked and left.
+  -- A reader that looked and ended the look has taken a list.
   pub took : (past late : Option (Knowledge S I)) (v w now : Knowledge S I) → Takes installed past v w → late ≡ None → now ≡ w → StaysOrTakes installed past v late now
   took past late v w now t none is = inr (none, subst (λ (k : Knowledge S I). Takes installed past v k) (sym is) t)
 
-  -- A reader that did not look.
+  -- A reader that did not look is unchanged.
   pub stayed : (past : Option (Knowledge S I)) (v now : Knowledge S I) → now ≡ v → StaysOrTakes installed past v past now
   stayed past v now is = inl (refl, is)
 
-  -- A look that saw fewer installs than it had to.
+  -- A look that saw fewer installs than `least` loses no knowledge.
   pub refuses : (least : ℕ) (past late : Option (Knowledge S I)) (v w now : Knowledge S I) → IsAhead past v → Takes installed past v w → length w.installs < least → late ≡ None → now ≡ w
       → Follows installed (known past v) (known late now) × LooksBelow least (known past v) (known late now)
   refuses least past late v w now ahead t few none is =

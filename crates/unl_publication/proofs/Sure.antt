@@ -1,4 +1,4 @@
--- The invariants of the writer and the readers, inside and outside of ghost fields.
+-- The invariants of the writer and the readers. Ghost fields state them wrapped in `∥ ∥₁`; these lemmas unwrap them.
 use Rattle.std.proofs.Common.{◌≡◌, ℕ, suc, ◌+◌, ◌<◌, ◌≤◌, zero-le, List, [], ◌∷◌, length, fold, Some, true, false, is_err, is_some, Result, Ok, Err, MatchResult, IfSome, sym, refl, ap, ◌∙◌, subst, add-zero, length-append, arith}
 use mathlib.Core.Logic.{∥∥₁_elim, ∥∥₁_map, ∥∥₁_map₂}
 use base.Stored.{Coded, Coded-set}
@@ -39,18 +39,18 @@ module _ {S I : Type 0} where
   pub IsBetweenLooks-rises : (past : Option (Knowledge S I)) (now : Knowledge S I) → IsBetweenLooks past now → Rise 0 (known past now).fronts (length now.installs)
   IsBetweenLooks-rises past now h = Rise-higher 0 (known past now).fronts (length (known past now).installs) (length now.installs) h.fronts (known_ahead past now h.ahead)
 
-  -- The reader continues from a learned list.
+  -- The invariant holds of a reader that now continues from a learned list.
   pub IsBetweenLooks-learned : (past : Option (Knowledge S I)) (now learned kept : Knowledge S I) → IsBetweenLooks past now → kept ≡ known past now → length now.installs < length learned.installs → IsBetweenLooks (Some kept) learned
   IsBetweenLooks-learned past now learned kept h is more = record {
     fronts = subst AreFronts (sym is) h.fronts;
     ahead = omega (arith, known_ahead past now h.ahead, more, ap (λ (k : Knowledge S I). length k.installs) is);
   }
 
-  -- The reader continues from its own list.
+  -- The invariant holds of a reader that ended a look and continues from its own list.
   pub IsBetweenLooks-alone : (now : Knowledge S I) → IsLooking now → IsBetweenLooks None now
   IsBetweenLooks-alone now h = record { fronts = h.fronts; ahead = h.before }
 
-  -- A reader that knows an opening value and a list, and hasn't looked.
+  -- The invariant holds of a reader that knows an opening value and a list, and hasn't looked.
   pub IsBetweenLooks-fresh : (now : Knowledge S I) → now.fronts ≡ [] → now.before ≡ [] → IsBetweenLooks None now
   IsBetweenLooks-fresh now none nothing = record {
     fronts = subst (λ (ns : List ℕ). Rise 0 ns (length now.installs)) (sym none) zero-le;
@@ -97,21 +97,21 @@ module _ {S I : Type 0} where
 -- ---- installs that the values before them allow
 
 module _ {S I : Type 0} (installed : S → I → S) (allows : S → I → Type 0) where
-  -- One that knows the same list.
+  -- The installs are allowed for equal knowledge.
   pub KnowsAllowed-same : (v w : Knowledge S I) → w ≡ v → ∥ KnowsAllowed installed allows v ∥₁ → ∥ KnowsAllowed installed allows w ∥₁
   KnowsAllowed-same v w same h = subst (λ (k : Knowledge S I). ∥ KnowsAllowed installed allows k ∥₁) (sym same) h
 
-  -- One that learned the list.
+  -- The installs are allowed for a reader that learned the list.
   pub KnowsAllowed-shared : (v w : Knowledge S I) → w ≡ shared_knowledge v → ∥ KnowsAllowed installed allows v ∥₁ → ∥ KnowsAllowed installed allows w ∥₁
   KnowsAllowed-shared v w same h = KnowsAllowed-same (shared_knowledge v) w same h
 
-  -- A writer that knows the opening value alone.
+  -- A writer that knows only the opening value knows no install.
   pub KnowsAllowed-opened : (table : ℕ) (value : S) (v w : Knowledge S I) → v ≡ knows_nothing → Opens table value v w → ∥ KnowsAllowed installed allows w ∥₁
   KnowsAllowed-opened table value v w none opens =
       KnowsAllowed-same (knows_opening table value) w
       (opens ∙ (λ i. record { table = Some table; opening = Some value; installs = (none i).installs; before = (none i).before; fronts = (none i).fronts })) ∣ tt ∣₁
 
-  -- A reader that did not continue from a learned list.
+  -- `AreBothAllowed` for a reader that did not continue from a learned list.
   pub AreBothAllowed-alone : (late : Option (Knowledge S I)) (now : Knowledge S I) → late ≡ None → ∥ KnowsAllowed installed allows now ∥₁ → ∥ AreBothAllowed installed allows late now ∥₁
   AreBothAllowed-alone late now none h = subst (λ (o : Option (Knowledge S I)). ∥ AreBothAllowed installed allows o now ∥₁) (sym none)
       (∥∥₁_map h (λ (x : KnowsAllowed installed allows now). both x))
@@ -119,7 +119,7 @@ module _ {S I : Type 0} (installed : S → I → S) (allows : S → I → Type 0
       both : KnowsAllowed installed allows now → AreBothAllowed installed allows None now
       both x = record { seen = x; next = x }
 
-  -- A reader that continues from a learned list.
+  -- `AreBothAllowed` for a reader that continues from a learned list.
   pub AreBothAllowed-learned : (past : Option (Knowledge S I)) (now learned kept : Knowledge S I) → kept ≡ known past now → ∥ AreBothAllowed installed allows past now ∥₁
       → ∥ KnowsAllowed installed allows learned ∥₁ → ∥ AreBothAllowed installed allows (Some kept) learned ∥₁
   AreBothAllowed-learned past now learned kept is h more = ∥∥₁_map₂ h more both
@@ -132,7 +132,7 @@ module _ {S I : Type 0} (installed : S → I → S) (allows : S → I → Type 0
   allowed_by None list value what there is may = absurd cc
   allowed_by (Some o) list value what there is may = subst (λ (s : S). allows s what) (sym (is o refl)) (may o refl)
 
-  -- The value shown allows what may be published.
+  -- The value that is shown allows an install that may be published.
   pub MayPublish-allows : (v : Knowledge S I) (value : S) (what : I) → is_some v.opening ≡ true → ((o : S) → v.opening ≡ Some o → value ≡ fold installed o v.installs)
       → MayPublish installed allows v what → allows value what
   MayPublish-allows v value what there is may = allowed_by v.opening v.installs value what there is may

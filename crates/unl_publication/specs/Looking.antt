@@ -1,4 +1,7 @@
--- Invariants of what the writer and a reader know, and the steps of a reader.
+-- Invariants of what the writer and a reader know, and how each step of a reader changes what it knows. A look of a reader shows it the
+-- published value and the list of installs so far; the front of the look is the length of that list. A reader can also learn a longer
+-- list from a report of the writer, and then continues from it. `now` is the knowledge that the reader continues from. `past` is its
+-- knowledge at the last look if it has learned a longer list since, otherwise `None`.
 use Rattle.std.specs.Prelude.{◌≡◌, ℕ, ◌<◌, ◌≤◌, [], ◌∷◌, ◌++◌, ◌⊎◌, length, fold, leb, if◌then◌else◌}
 use Rattle.std.specs.Prelude.{Option, Some, None, option_map, unwrap_or}
 use Rattle.unl_publication.specs.declared.knowledge.Knowledge.{Knowledge}
@@ -15,11 +18,12 @@ module _ {S I : Type 0} where
     pub value_is : (o : S) → v.opening ≡ Some o → value ≡ fold installed o v.installs
     pub front_is : front_of value ≡ length v.installs
 
-  -- The fronts of the looks never fall, and none is above the length of the list that was seen.
+  -- In the order of the looks, their fronts never fall, and none is above the number of known installs.
   abbrev pub AreFronts : Knowledge S I → Type 0
   AreFronts v = Rise 0 v.fronts (length v.installs)
 
-  -- If the reader continues from a learned list, that list is longer than the one it saw.
+  -- If the reader continues from a learned list, that list is longer than the list at its last look. Otherwise the field `before` of its
+  -- knowledge has at most as many values as the reader knows installs.
   abbrev pub IsAhead : Option (Knowledge S I) → Knowledge S I → Type 0
   IsAhead (Some past) now = length past.installs < length now.installs
   IsAhead None now = length now.before ≤ length now.installs
@@ -29,7 +33,7 @@ module _ {S I : Type 0} where
     pub fronts : AreFronts (known past now)
     pub ahead : IsAhead past now
 
-  -- The installs that it saw are allowed, each by the value before it, and so are those that it continues from.
+  -- The installs that the reader saw, and those that it continues from, are allowed, each by the value before it.
   pub record AreBothAllowed (installed : S → I → S) (allows : S → I → Type 0) (past : Option (Knowledge S I)) (now : Knowledge S I)
       : Type 0 where
     pub seen : KnowsAllowed installed allows (known past now)
@@ -51,13 +55,13 @@ module _ {S I : Type 0} where
     }
     pub seen : StartsWith new.installs now.installs
 
-  -- The reader is as it was, or it took a list and left.
+  -- The reader is unchanged, or it took a list and ended the look.
   abbrev pub StaysOrTakes :
       (S → I → S) → Option (Knowledge S I) → Knowledge S I → Option (Knowledge S I) → Knowledge S I → Type 0
   StaysOrTakes installed past now past_after after =
       ((past_after ≡ past) × (after ≡ now)) ⊎ ((past_after ≡ None) × Takes installed past now after)
 
-  -- What was known is still known, and is the same.
+  -- No knowledge is lost: the number of known installs doesn't fall, and each known value is still known.
   pub record Follows (installed : S → I → S) (old new : Knowledge S I) : Type 0 where
     pub rises : front_seen old ≤ front_seen new
     pub keeps : (k : ℕ) (value : S) → value_at installed old k ≡ Some value → value_at installed new k ≡ Some value
@@ -66,13 +70,13 @@ module _ {S I : Type 0} where
   abbrev pub LooksBelow : ℕ → Knowledge S I → Knowledge S I → Type 0
   LooksBelow least old new = (new.fronts ≡ old.fronts) ⊎ ((front : ℕ) × (new.fronts ≡ old.fronts ++ front ∷ []) × (front < least))
 
-  -- What a reader continues from after it learned a front: if the front is above its own, the list that came with it, if there
-  -- is one; otherwise its own.
+  -- What a reader continues from after it learned a report: the reported list, if there is one and the reported front is above the
+  -- reader's own; otherwise its own list.
   abbrev pub continues_from : ℕ → Option (Knowledge S I) → Knowledge S I → Knowledge S I
   continues_from front reported own = if leb front (front_seen own) then own else unwrap_or reported own
 
-  -- What a reader remembers of its last look after it learned a front: if it continues from the list that came with it, what it
-  -- knew at that look; otherwise what it remembered.
+  -- What a reader remembers of its last look after it learned a report: what it knew at that look, if it now continues from the
+  -- reported list; otherwise what it remembered before.
   abbrev pub remembers : ℕ → Option (Knowledge S I) → Option (Knowledge S I) → Knowledge S I → Option (Knowledge S I)
   remembers front reported past own =
       if leb front (front_seen own) then past else unwrap_or (option_map (λ _. Some (known past own)) reported) past

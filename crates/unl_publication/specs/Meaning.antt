@@ -1,8 +1,8 @@
--- What a reader's knowledge means.
+-- The values that a writer or a reader knows, computed from its `Knowledge`.
 use Rattle.std.specs.Prelude.{ℕ, zero, suc, leb, length, take, fold, Bool, true, false, List, [], ◌∷◌, Option, Some, None, option_map}
 use Rattle.unl_publication.specs.declared.knowledge.Knowledge.{Knowledge}
 
--- The option, if the test passes.
+-- The option if the test is true, otherwise `None`.
 abbrev pub some_if : {A : Type 0} → Bool → Option A → Option A
 some_if true x = x
 some_if false x = None
@@ -24,17 +24,18 @@ module _ {S I : Type 0} where
   abbrev pub front_seen : Knowledge S I → ℕ
   front_seen v = length v.installs
 
-  -- The value after the first `k` installs, if that many were seen.
+  -- The value after the first `k` installs, or `None` if the list has fewer or the value is not known. `before` has the values that were
+  -- known before the reader continued from a learned list. Later values are computed from the opening value.
   abbrev pub value_at : (S → I → S) → Knowledge S I → ℕ → Option S
   value_at installed v k = some_if (leb k (length v.installs))
       (item_or v.before k (option_map (λ opening. fold installed opening (take k v.installs)) v.opening))
 
-  -- All values that are known.
+  -- The known values after 0, 1, 2, .. installs, up to the whole list.
   abbrev pub values : (S → I → S) → Knowledge S I → List (Option S)
   values installed v = first_of (value_at installed v) (suc (length v.installs))
 
-  -- What a reader knew when it last looked: if it has continued from a learned list since, what it knew before that,
-  -- otherwise what it knows now.
+  -- What a reader knew when it last looked at the published value. The option is its knowledge before it continued from a learned list,
+  -- or `None` if it has not done so since that look; its knowledge is then unchanged since the look.
   abbrev pub known : Option (Knowledge S I) → Knowledge S I → Knowledge S I
   known (Some past) now = past
   known None now = now

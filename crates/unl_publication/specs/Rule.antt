@@ -1,4 +1,5 @@
--- The invariant of the published value, and what each step makes known.
+-- The invariant of a published value, and what each step adds to the `Knowledge` of the writer and of the readers. An install is one
+-- change of the value. The front of a value is the number of installs that it has absorbed.
 use Rattle.std.specs.Prelude.{◌≡◌, ℕ, ◌≤◌, ⊤, List, [], ◌∷◌, ◌++◌, length, fold, Option, Some, None, IfSome}
 use mathlib.Core.Option.{some}
 use lib.ListN.{get_elem?}
@@ -19,11 +20,11 @@ module _ {S I : Type 0} where
   abbrev pub knows_nothing : Knowledge S I
   knows_nothing = record { table = None; opening = None; installs = []; before = []; fronts = [] }
 
-  -- The table and the opening value are known.
+  -- Only the table, which identifies the publication, and the opening value are known. The opening value is the one published first.
   abbrev pub knows_opening : ℕ → S → Knowledge S I
   knows_opening table opening = record { table = Some table; opening = Some opening; installs = []; before = []; fronts = [] }
 
-  -- The list with installs appended.
+  -- The same knowledge with installs appended to its list.
   abbrev pub with_installs : List I → Knowledge S I → Knowledge S I
   with_installs given v = record {
     table = v.table;
@@ -33,7 +34,7 @@ module _ {S I : Type 0} where
     fronts = v.fronts;
   }
 
-  -- What is passed on from one's knowledge: the table, the opening value and the list.
+  -- The part of its knowledge that the writer shares with a reader: the table, the opening value and the list.
   abbrev pub shared_knowledge : Knowledge S I → Knowledge S I
   shared_knowledge v = record { table = v.table; opening = v.opening; installs = v.installs; before = []; fronts = [] }
 
@@ -61,7 +62,8 @@ module _ {S I : Type 0} where
     pub fronts : Rise 0 v.fronts (length v.installs)
 
   -- There is one opening value, with front 0, and one list of installs, each allowed by the value before it. The published
-  -- value is the opening value after the list, its front is the list's length, and everyone's knowledge agrees with both.
+  -- value is the opening value after the list, its front is the list's length, and all knowledge in `views`, of the writer and of
+  -- the readers, agrees with the opening value and the list.
   pub record IsKept (installed : S → I → S) (front_of : S → ℕ) (allows : S → I → Type 0) (value : S) (views : List (Knowledge S I))
       : Type 0 where
     pub opening : S
@@ -89,8 +91,9 @@ module _ {S I : Type 0} where
     pub same : w ≡ with_installs given v
     pub allowed : KnowsAllowed installed allows w
 
-  -- A list was taken that starts with the one before. The value before each install allows it. The value shown is the opening
-  -- value after the list, and its length is the front, which is appended to the earlier fronts.
+  -- A reader looks at the value. `v` is its knowledge before the look, `w` its knowledge afterwards. The installs of `w` start with
+  -- those of `v`. Each is allowed by the value before it. `value` is the opening value after the installs of `w`. The front of `value`
+  -- is their number, which is appended to `fronts`.
   pub record Enters (installed : S → I → S) (front_of : S → ℕ) (allows : S → I → Type 0) (before : List (Option S)) (fronts : List ℕ)
       (value : S) (v w : Knowledge S I) : Type 0 where
     pub same : w ≡ record {

@@ -10,12 +10,13 @@ use crate::writer::{Writer, fresh_seat};
 use std::alloc::{AllocError, Global};
 use std::sync::Wait;
 
-/// Creates a writer over two copies with equal meaning, and `readers` readers that know only the opening value. There is
-/// room for `spare_readers` more readers, so that many lists returned by `tell` can wait to be learned at a time.
+/// Creates a writer over two copies with equal meaning, and `readers` readers that know only the opening value. There
+/// is room for `spare_readers` more readers. Each `Told` (a report of the writer for one reader) that has the list of
+/// published installs takes the room of one spare reader until a reader learns it or it is dropped.
 ///
 /// # Errors
 ///
-/// Fails if it runs out of memory or a reader can't be made.
+/// Fails if it runs out of memory or a reader can't be created.
 pub fn begin<T: Counted<I> + Drop, I: Drop, P: Rules<T, I>, W: Wait>(
     rt: &W,
     alloc: Global,
@@ -41,6 +42,7 @@ pub fn begin<T: Counted<I> + Drop, I: Drop, P: Rules<T, I>, W: Wait>(
     }
 }
 
+/// Creates `count` readers that know what the writer knows.
 fn new_readers<T: Counted<I> + Drop, I: Drop, P: Rules<T, I>>(
     alloc: Global,
     writer: &mut Writer<T, I, P>,

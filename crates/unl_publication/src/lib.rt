@@ -1,5 +1,6 @@
-//! A value that one writer publishes to several readers, as one list of installs. A reader never waits: it looks at one
-//! copy of the value while the writer changes the other (`left_right`).
+//! A value that one writer changes and several readers read. Each change is one install, and the list of published
+//! installs only grows. A reader never waits: it looks at one copy of the value while the writer changes the other
+//! (`left_right`).
 #![tactic(auto)]
 
 mod beginning;

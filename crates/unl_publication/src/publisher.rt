@@ -1,4 +1,4 @@
-//! A writer that is changed in place.
+//! A writer that is used through `&mut self`, where `Writer` is passed by value.
 ghost use Rattle.std.specs.Prelude.{◌≡◌, true, false, [], ◌∷◌, length, fold, Some, is_some};
 ghost use Rattle.std.specs.Prelude.{IfSome, IsErr, MatchResult, OnOk};
 ghost use Rattle.unl_publication.specs.Meaning.{front_seen};
@@ -11,9 +11,11 @@ use std::alloc::AllocError;
 use std::mem::replace;
 use std::sync::Wait;
 
-/// A writer that is used through `&mut self`, with the `Wait` that it waits by. It isn't `Drop`: close it with `end`.
+/// A writer that is used through `&mut self`. It keeps `rt`, with which it waits for readers. It isn't `Drop`: close it
+/// with `end`.
 pub struct Publisher<'a, W: Wait, T: Counted<I> + Drop, I: Drop, P: Rules<T, I>> {
     rt: &'a W,
+    /// The writer. It is `None` only while a call passes it by value.
     pub(crate) writer: Option<Writer<T, I, P>>,
     ghost has_writer: { is_some writer ≡ true },
 }
@@ -21,7 +23,7 @@ pub struct Publisher<'a, W: Wait, T: Counted<I> + Drop, I: Drop, P: Rules<T, I>>
 impl<'a, W: Wait, T: Counted<I> + Drop, I: Drop, P: Rules<T, I>> Publisher<'a, W, T, I, P> {
     ghost use Rattle.unl_publication.specs.Seen.{is_closed, stays_closed, published, reported_front, reported_list, written};
 
-    /// A publisher over a writer. It waits by `rt`.
+    /// Wraps a writer. Calls that wait for readers wait with `rt`.
     pub fn new(rt: &'a W, writer: Writer<T, I, P>) -> Publisher<'a, W, T, I, P>
         ensures published { published result ≡ written writer }
         ensures closed { stays_closed result ≡ is_closed writer }
@@ -32,13 +34,13 @@ impl<'a, W: Wait, T: Counted<I> + Drop, I: Drop, P: Rules<T, I>> Publisher<'a, W
         }
     }
 
-    /// Publishes an install that the published value allows, and returns how many were published. Waits for readers that still
-    /// look at an older copy.
+    /// Publishes an install, which the published value has to allow. Returns the number of all installs published so
+    /// far. Waits for readers that still look at an older copy.
     ///
     /// # Errors
     ///
-    /// Fails if it runs out of memory, or if the install or its copy can't be absorbed. Nothing is published then. If this
-    /// happens after the install was logged, every later call fails too.
+    /// Fails if it runs out of memory, or if the install or its copy can't be absorbed. Nothing is published then. If
+    /// the install was already appended to the log of `left_right` when the call failed, every later call fails too.
     pub fn publish(&mut self, what: I) -> Result<u64, AllocError>
         requires { MayPublish T.applied T.allows (published self.old) what }
         ensures published { MatchResult result
@@ -70,8 +72,9 @@ impl<'a, W: Wait, T: Counted<I> + Drop, I: Drop, P: Rules<T, I>> Publisher<'a, W
         writer.value()
     }
 
-    /// What the writer knows now, for one reader to learn: its list, or only the list's length if `left_right` makes no reader
-    /// for it. It makes none if it finds each place in use, and its contract names no cause.
+    /// Returns what one reader can learn now: the list of published installs and its length. Returns only the length if
+    /// `left_right` can't create another reader, because all its places for readers are in use. The contract of
+    /// `left_right` doesn't state this cause.
     pub fn tell(&mut self) -> Told<T, I, P>
         ensures same { published self.new ≡ published self.old }
         ensures closed { stays_closed self.new ≡ stays_closed self.old }

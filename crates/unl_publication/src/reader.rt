@@ -18,12 +18,13 @@ use std::snapshot::Snapshot;
 /// A reader that is not looking at the value.
 #[derive(Drop)]
 pub struct Reader<T: Counted<I> + Drop, I: Drop, P: Rules<T, I>> {
+    /// The `left_right` reader. Its knowledge is the list that this reader continues from.
     pub(crate) seat: Seat<T, Knowledge<T::State, I>, P>,
-    /// The reader as it was at its last look, if it has learned a longer list since.
+    /// A ghost copy of `seat` as it was at the last look, if the reader has learned a longer list since.
     pub(crate) past: Option<Snapshot<Seat<T, Knowledge<T::State, I>, P>>>,
-    /// The number of installs that it knows.
+    /// The number of installs that the reader knows.
     pub(crate) front: u64,
-    /// The largest number of installs that it has learned of. It returns no value with fewer.
+    /// The largest number of installs that the reader has learned of. It shows no value with fewer installs.
     pub(crate) least: u64,
     ghost counted: { front ≡ length (view seat.place).installs },
     ghost between_looks: { ∥ IsBetweenLooks (option_map (λ s. view s.value.place) past) (view seat.place) ∥₁ },
@@ -32,8 +33,11 @@ pub struct Reader<T: Counted<I> + Drop, I: Drop, P: Rules<T, I>> {
 
 /// A reader that is looking at the value. It isn't `Drop`: end the look with `leave`.
 pub struct Guard<T: Counted<I> + Drop, I: Drop, P: Rules<T, I>> {
+    /// The `left_right` look, which shows one copy of the value.
     pub(crate) reading: Reading<T, Knowledge<T::State, I>, P>,
+    /// The number of installs that the value has absorbed.
     pub(crate) front: u64,
+    /// The largest number of installs that the reader had learned of when it looked.
     pub(crate) least: u64,
     ghost counted: { front ≡ length (view reading.place).installs },
     ghost shows: { ∥ Shows T.applied T.front_of (T.state reading.part.value) (view reading.place) ∥₁ },
@@ -45,9 +49,9 @@ impl<T: Counted<I> + Drop, I: Drop, P: Rules<T, I>> Reader<T, I, P> {
     ghost use Rattle.unl_publication.specs.Seen.{next, past, seen, taken, reported_front, reported_list};
     ghost use Rattle.unl_publication.specs.Seen.{learned_front, learned_front_at_look};
 
-    /// Learns what the writer knew when it made `told`. From then on the reader returns no value with fewer installs, and
-    /// what it knew stays known. If `told` has more installs than the reader knows, and has their list, the list that the
-    /// reader takes next starts with that one.
+    /// Learns from `told`, which the writer's `tell` returned. From then on `enter` shows no value with fewer installs
+    /// than `told` counts. What the reader knew stays known. If `told` counts more installs than the reader knows, and
+    /// has their list, the next list that the reader takes starts with that list.
     pub fn learn(&mut self, told: Told<T, I, P>)
         requires origin { IfSome (reported_list told) (λ list. SameOrigin list (next self.old)) }
         ensures origin { SameOrigin (next self.new) (next self.old) }
@@ -73,8 +77,8 @@ impl<T: Counted<I> + Drop, I: Drop, P: Rules<T, I>> Reader<T, I, P> {
     ///
     /// # Errors
     ///
-    /// Returns the reader if it did not look, for which `left_right` gives no cause, or if the list was shorter than the
-    /// reader had learned.
+    /// Returns the reader if `left_right` refused the look (it gives no cause), or if the value has fewer installs than
+    /// the reader has learned of.
     pub fn enter(self) -> Result<Guard<T, I, P>, Reader<T, I, P>>
         ensures least { MatchResult result
             (λ guard. (learned_front self ≤ front_seen (taken guard)) × (learned_front_at_look guard ≡ learned_front self))
@@ -119,7 +123,7 @@ impl<T: Counted<I> + Drop, I: Drop, P: Rules<T, I>> Reader<T, I, P> {
     }
 }
 
-// The reader as it was when it last looked.
+// The `left_right` reader as it was at the last look: `past` if there is one, otherwise `seat` as it is now.
 fn last_look<T: Counted<I> + Drop, I: Drop, P: Rules<T, I>>(
     past: Option<Snapshot<Seat<T, Knowledge<T::State, I>, P>>>,
     seat: &Seat<T, Knowledge<T::State, I>, P>,
@@ -132,6 +136,7 @@ fn last_look<T: Counted<I> + Drop, I: Drop, P: Rules<T, I>>(
     }
 }
 
+// Starts a look. Only the contract uses `past`, which says what the reader knew at its last look.
 fn enter_past<T: Counted<I> + Drop, I: Drop, P: Rules<T, I>, K: Past<T::State>>(
     seat: Seat<T, Knowledge<T::State, I>, P>,
     past: &Option<Snapshot<Seat<T, Knowledge<T::State, I>, P>>>,
@@ -159,7 +164,7 @@ impl<T: Counted<I> + Drop, I: Drop, P: Rules<T, I>> Guard<T, I, P> {
         self.front
     }
 
-    /// The value: the opening value after the list that was taken.
+    /// The value that the look shows: the opening value after the installs of the list that was taken.
     pub fn value(&self) -> &T
         ensures list { (opening : T.State) → (taken self.now).opening ≡ Some opening
             → T.state result.now ≡ fold T.applied opening (taken self.now).installs }
@@ -169,7 +174,7 @@ impl<T: Counted<I> + Drop, I: Drop, P: Rules<T, I>> Guard<T, I, P> {
         self.reading.get()
     }
 
-    /// Ends the look. What was seen stays known.
+    /// Ends the look. The reader still knows what it saw.
     pub fn leave(self) -> Reader<T, I, P>
         ensures past { past result ≡ None }
         ensures least { learned_front result ≡ learned_front_at_look self }

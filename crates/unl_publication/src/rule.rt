@@ -5,8 +5,8 @@ use atomic_table::{Join, Split};
 use crossbeam_utils::rule::{Outcome, Protocol};
 use std::marker::{Brand, PhantomData};
 
-/// The invariant of the publications: `Ruled`, or another protocol equivalent to it. The invariant is `IsKept`:
-/// there is one opening value and one list of installs, the value before each install allows it, and the writer and each
+/// The invariant of the publications: `Ruled`, or another protocol equivalent to it. The invariant is `IsKept`: there
+/// is one opening value and one list of installs, the value before each install allows it, and the writer and each
 /// reader know a prefix of that list.
 pub trait Rules<T: Counted<I>, I: Drop>: Protocol<T, Knowledge<T::State, I>> {
     ghost use Rattle.std.specs.Prelude.{◌≡◌, List};
@@ -25,7 +25,7 @@ pub trait Rules<T: Counted<I>, I: Drop>: Protocol<T, Knowledge<T::State, I>> {
     ghost begins: { Self.first ≡ knows_nothing };
 }
 
-/// The invariant for installs of this type.
+/// The protocol with the invariant `IsKept`, for installs of type `I`.
 pub struct Ruled<I> {
     of: PhantomData<I>,
 }
@@ -48,28 +48,28 @@ impl<T: Counted<I>, I: Drop> Rules<T, I> for Ruled<I> {
     ghost begins = { refl };
 }
 
-/// The installs of one publication. Each call passes them as a type parameter.
+/// The installs that one publication appends. They exist only in contracts, so a call passes them as a type parameter.
 pub trait Given<I> {
     ghost use Rattle.std.specs.Prelude.{List};
 
     ghost given: { List I };
 }
 
-/// A call that passes `Brand` has the installs picked by its proof. The value here is only a placeholder.
+/// If a call passes `Brand`, its proof chooses the installs. The value here is only a placeholder.
 impl<I> Given<I> for Brand {
     ghost use Rattle.std.specs.Prelude.{[]};
 
     ghost given = { [] };
 }
 
-/// The name of the table that a writer begins with. The call passes it as a type parameter.
+/// The name of a new writer's `atomic_table`. It exists only in contracts, so a call passes it as a type parameter.
 pub trait AtTable {
     ghost use Rattle.std.specs.Prelude.{ℕ};
 
     ghost table: { ℕ };
 }
 
-/// A call that passes `Brand` has the name picked by its proof. The value here is only a placeholder.
+/// If a call passes `Brand`, its proof chooses the name. The value here is only a placeholder.
 impl AtTable for Brand {
     ghost table = { 0 };
 }
@@ -85,7 +85,8 @@ impl<T: Counted<I>, I: Drop, K: AtTable> Outcome<T, Knowledge<T::State, I>> for 
     ghost then = { λ v x _ w. Opens K.table (T.state x) v w };
 }
 
-/// What a publication makes known to the writer: the installs that were given are appended to its list, and each was allowed.
+/// What a publication makes known to the writer: its list has the new installs at the end, and each of them was
+/// allowed.
 pub(crate) struct Publish<K> {
     of: PhantomData<K>,
 }
@@ -96,17 +97,21 @@ impl<T: Counted<I>, I: Drop, K: Given<I>> Outcome<T, Knowledge<T::State, I>> for
     ghost then = { λ v _ _ w. Publishes T.applied T.allows K.given v w };
 }
 
-/// What a reader knew before a look. Each call passes it as a type parameter.
+/// What a reader knew before a look, which is one read of the published value. It exists only in contracts, so a call
+/// passes it as a type parameter.
 pub trait Past<S> {
     ghost use Rattle.std.specs.Prelude.{List, ℕ};
     ghost use Rattle.std.specs.declared.option.Option.{Option};
 
+    /// The values after 0, 1, 2, .. installs that the reader knew before it continued from a list of installs that the
+    /// writer shared with it. Empty if it never did.
     ghost before: { List (Option S) };
 
+    /// The number of installs at each earlier look.
     ghost fronts: { List ℕ };
 }
 
-/// A call that passes `Brand` has these members picked by its proof. The values here are only placeholders.
+/// If a call passes `Brand`, its proof chooses these members. The values here are only placeholders.
 impl<S> Past<S> for Brand {
     ghost use Rattle.std.specs.Prelude.{[]};
 
@@ -126,7 +131,8 @@ impl<T: Counted<I>, I: Drop, K: Past<T::State>> Outcome<T, Knowledge<T::State, I
     ghost then = { λ v x _ w. Enters T.applied T.front_of T.allows K.before K.fronts (T.state x) v w };
 }
 
-/// The writer tells what it knows: the table, the opening value and the list. It still knows them itself.
+/// The writer shares its knowledge with a new reader: the table, the opening value and the list. The writer keeps what
+/// it knows.
 pub(crate) struct Tell;
 
 impl<S, I> Split<Knowledge<S, I>> for Tell {
@@ -137,7 +143,7 @@ impl<S, I> Split<Knowledge<S, I>> for Tell {
     ghost right = { shared_knowledge };
 }
 
-/// A new reader learns what it was told: it then knows that and nothing else.
+/// A new reader receives what the writer shared. It then knows that and nothing else.
 pub(crate) struct Learn;
 
 impl<S, I> Join<Knowledge<S, I>> for Learn {

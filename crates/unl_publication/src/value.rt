@@ -1,14 +1,15 @@
-//! The published value, which installs change.
+//! The trait of a published value: it absorbs installs (changes of the value) and counts them.
 ghost use Rattle.std.specs.Prelude.{◌≡◌, ℕ, ◌+◌};
 
 use left_right::Absorb;
 
-/// A value that counts the installs it has absorbed: its front. At 2^64 - 1 its `absorb_first` has to fail.
+/// A value that counts the installs it has absorbed. This count is its front. When the front is 2^64 - 1, its
+/// `absorb_first` has to fail. `left_right` keeps two copies of the value.
 pub trait Counted<I: Drop>: Absorb<I> {
-    /// The front of a copy's state.
+    /// The front of a copy of the value, given the state of the copy in contracts.
     ghost front_of: { Self.State → ℕ };
 
-    /// The installs that may come after a value. Without one of the type's own, any may.
+    /// Whether an install may be applied to a value. By default every install may.
     ghost allows: { Self.State → I → Type 0 } = { λ _ _. Unit {0} };
 
     /// The number of installs that this copy has absorbed.

@@ -1,4 +1,4 @@
-//! The writer of the published value.
+//! The writer of the published value, and what it reports for a reader to learn.
 ghost use Rattle.std.specs.Prelude.{◌≡◌, ◌^◌, ◌<◌, false, [], ◌∷◌, ℕ, length, drop, fold};
 ghost use Rattle.std.specs.Prelude.{IfOk, IfSome, IsErr, MatchResult, OnOk};
 ghost use Rattle.std.specs.Prelude.{true, Some, is_some};
@@ -17,10 +17,11 @@ use std::alloc::{AllocError, Global};
 use std::marker::Brand;
 use std::sync::Wait;
 
-/// The writer, between two calls. It isn't `Drop`: close it with `end`.
+/// The writer of the published value. It isn't `Drop`: close it with `end`.
 pub struct Writer<T: Counted<I> + Drop, I: Drop, P: Rules<T, I>> {
+    /// The `left_right` writer, with both copies of the value.
     pub(crate) sides: Sides<T, I, Knowledge<T::State, I>, P>,
-    /// A publication failed after its install was logged, so no more are made.
+    /// Whether a publication failed after its install was logged. Every later publication then fails.
     pub(crate) refused: bool,
     ghost shows: { ∥ Shows T.applied T.front_of (T.state sides.desk.shown.value) (view sides.desk.place) ∥₁ },
     ghost clear: { refused ≡ false → drop sides.behind sides.log.items ≡ [] },
@@ -28,7 +29,8 @@ pub struct Writer<T: Counted<I> + Drop, I: Drop, P: Rules<T, I>> {
     ghost allowed: { ∥ KnowsAllowed T.applied T.allows (view sides.desk.place) ∥₁ },
 }
 
-/// What a writer knew at one moment, for one reader to learn.
+/// A report of the writer at one moment, for one reader to learn: the number of published installs and, if there was
+/// room for it, their list.
 #[derive(Drop)]
 pub struct Told<T: Counted<I> + Drop, I: Drop, P: Rules<T, I>> {
     /// A reader that knows what the writer knew, if there was room for one more.
@@ -42,7 +44,7 @@ pub struct Told<T: Counted<I> + Drop, I: Drop, P: Rules<T, I>> {
 impl<T: Counted<I> + Drop, I: Drop, P: Rules<T, I>> Told<T, I, P> {
     ghost use Rattle.unl_publication.specs.Seen.{reported_list};
 
-    /// Whether the list is in it.
+    /// Whether the report has the list of installs, and not only its length.
     pub fn has_list(&self) -> bool
         ensures { result ≡ is_some (reported_list self.now) }
     {
@@ -56,7 +58,8 @@ impl<T: Counted<I> + Drop, I: Drop, P: Rules<T, I>> Told<T, I, P> {
 impl<T: Counted<I> + Drop, I: Drop, P: Rules<T, I>> Writer<T, I, P> {
     ghost use Rattle.unl_publication.specs.Seen.{is_closed, reported_front, reported_list, written};
 
-    /// Creates a writer that knows the opening value, over two copies with equal meaning, with room for `readers` readers.
+    /// Creates a writer that knows the opening value, over two copies with equal meaning, with room for `readers`
+    /// readers.
     ///
     /// # Errors
     ///
@@ -97,8 +100,9 @@ impl<T: Counted<I> + Drop, I: Drop, P: Rules<T, I>> Writer<T, I, P> {
         self.sides.published()
     }
 
-    /// What the writer knows now, for one reader to learn: its list, or only the list's length if `left_right` makes no reader
-    /// for it. It makes none if it finds each place in use, and its contract names no cause.
+    /// Returns what one reader can learn now: the list of published installs and its length. The list is absent if
+    /// `left_right` can't create another reader. That happens if all places for readers are in use, but the contract of
+    /// `left_right` doesn't state the cause.
     pub fn tell(&mut self) -> Told<T, I, P>
         ensures same { written self.new ≡ written self.old }
         ensures closed { is_closed self.new ≡ is_closed self.old }
@@ -115,13 +119,13 @@ impl<T: Counted<I> + Drop, I: Drop, P: Rules<T, I>> Writer<T, I, P> {
         }
     }
 
-    /// Publishes an install that the published value allows. Returns the writer, and how many installs were published. Waits
-    /// for readers that still look at an older copy.
+    /// Publishes an install, which the published value has to allow. Returns the writer, and the number of all installs
+    /// published so far. Waits for readers that still look at an older copy.
     ///
     /// # Errors
     ///
-    /// Fails if it runs out of memory, or if the install or its copy can't be absorbed. Nothing is published then. If this
-    /// happens after the install was logged, every later call fails too.
+    /// Fails if it runs out of memory, or if the install or its copy can't be absorbed. Nothing is published then. If
+    /// this happens after the install was logged, every later call fails too.
     pub fn publish<W: Wait>(self, rt: &W, what: I) -> (Writer<T, I, P>, Result<u64, AllocError>)
         requires { MayPublish T.applied T.allows (written self) what }
         ensures published { MatchResult result.1
@@ -167,7 +171,7 @@ impl<T: Counted<I> + Drop, I: Drop, P: Rules<T, I>> Writer<T, I, P> {
     }
 }
 
-/// Adds a reader that knows what the writer knows.
+/// Adds a `left_right` reader that knows what the writer knows.
 pub(crate) fn fresh_seat<T: Counted<I> + Drop, I: Drop, P: Rules<T, I>>(
     sides: &mut Sides<T, I, Knowledge<T::State, I>, P>,
 ) -> Result<Seat<T, Knowledge<T::State, I>, P>, AllocError>
@@ -181,6 +185,8 @@ pub(crate) fn fresh_seat<T: Counted<I> + Drop, I: Drop, P: Rules<T, I>>(
     Ok(seat)
 }
 
+/// Makes a publication without installs. By it the writer's ghost record gets the name of the `atomic_table` and the
+/// opening value.
 fn open_table<T: Counted<I> + Drop, I: Drop, P: Rules<T, I>, K: AtTable, W: Wait>(
     rt: &W,
     sides: Sides<T, I, Knowledge<T::State, I>, P>,
@@ -199,6 +205,7 @@ fn open_table<T: Counted<I> + Drop, I: Drop, P: Rules<T, I>, K: AtTable, W: Wait
     sides.publish_as::<Open<K>, W>(rt)
 }
 
+/// Publishes the logged installs, which are `K.given`.
 fn publish_given<T: Counted<I> + Drop, I: Drop, P: Rules<T, I>, K: Given<I>, W: Wait>(
     rt: &W,
     sides: Sides<T, I, Knowledge<T::State, I>, P>,
