@@ -1,10 +1,10 @@
--- The history of what a peer was sent.
+-- A lemma about the history of a peer: the texts sent to it on each connection.
 use Rattle.std.proofs.Common.{◌≡◌, ◌∙◌, ℕ, List, [], ◌∷◌, ◌++◌, Option, Some, None, refl}
 use Rattle.std.specs.Option.{option_and_then, option_map}
 use Rattle.unl_base.specs.Peers.{PeerState, history_of}
 use Rattle.unl_base.specs.Streams.{Sends}
 
--- What was sent earlier and what was sent since, as one list.
+-- The texts sent on earlier connections, followed by the text sent since the last connect.
 abbrev joined : Option (List (List ℕ)) → Option (List ℕ) → Option (List (List ℕ))
 joined earlier sent = option_and_then (λ list. option_map (λ text. list ++ text ∷ []) sent) earlier
 

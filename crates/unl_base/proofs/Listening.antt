@@ -1,4 +1,4 @@
--- A door that has listened at a port is listening.
+-- Lemmas: a door that has listened at a port is listening.
 use Rattle.std.proofs.Common.{◌≡◌, ◌∙◌, ◌+◌, ℕ, Bool, true, List, [], ◌∷◌, ◌++◌, ap, arith, length, length-append, subst, sym}
 use Rattle.unl_base.specs.Doors.{DoorState, IsListening, listening_at}
 
@@ -11,7 +11,7 @@ not_empty ports port none =
 pub listens_now : (port : ℕ) (door : DoorState) → IsListening (listening_at port true door)
 listens_now port door = not_empty door.ports port
 
--- So is a door after a call of `listen` that succeeded.
+-- A door is listening after a call of `listen` that succeeded.
 pub listens_after : (port : ℕ) (could : Bool) (before door : DoorState) → could ≡ true
     → door ≡ listening_at port could before → IsListening door
 listens_after port could before door did listens =

@@ -1,4 +1,4 @@
--- The list of a door's links in memory, as links are handed out and taken back.
+-- Lemmas about the list of links of a door in memory, as links are handed out and taken back.
 use Rattle.std.proofs.Common.{◌≡◌, ◌≤◌, ◌<◌, ◌+◌, ◌-◌, ℕ, List, [], ◌∷◌, take, drop, map, length, slice_set, slice_index_or, Option, Some, None, true, All, IfSome, arith, ap, is_some, refl, subst}
 use Rattle.std.proofs.lemmas.List.{drop-set-lt, take-set-le, take_more_set, drop_more}
 use Rattle.std.proofs.lemmas.List.Elements.{All-tail, All-push, All-head}

@@ -1,4 +1,5 @@
--- The state of a door: the links it hands out and takes back. An optional field that isn't observable is `None`.
+-- The state of a door, which accepts connections at a port. It hands out each accepted connection as a link, and takes the link back
+-- when it has been served. An optional field that isn't observable is `None`.
 use Rattle.std.specs.Prelude.{◌≡◌, ◌⊎◌, ◌+◌, Bool, true, false, List, [], ◌∷◌, ◌++◌, Option, Some, None, ℕ, drop}
 use Rattle.std.specs.Prelude.{if◌then◌else◌, option_and_then, option_map, IfSome}
 
@@ -23,7 +24,8 @@ abbrev pub count_of : {A : Type 0} → Option A → ℕ
 count_of None = 0
 count_of (Some link) = 1
 
--- The state after a call of `listen`: the port is one more of its ports if the call succeeded, and nothing changes otherwise.
+-- The state after a call of `listen`: the port is appended to the door's ports if the call succeeded (`could`), and nothing changes
+-- otherwise.
 abbrev pub listening_at : ℕ → Bool → DoorState → DoorState
 listening_at port could door = record door { ports = if could then door.ports ++ port ∷ [] else door.ports }
 
@@ -31,11 +33,11 @@ listening_at port could door = record door { ports = if could then door.ports ++
 abbrev pub IsListening : DoorState → Type 0
 IsListening door = ¬ (door.ports ≡ [])
 
--- The door listened once more than before, at this port.
+-- Since the state `before`, the door has listened exactly once, at this port.
 abbrev pub ListenedAt : ℕ → DoorState → DoorState → Type 0
 ListenedAt port before door = door.ports ≡ before.ports ++ port ∷ []
 
--- The door listened once more than before, at this port, or at none.
+-- Since the state `before`, the door has listened exactly once, at this port, or not at all.
 abbrev pub ListenedOnlyAt : ℕ → DoorState → DoorState → Type 0
 ListenedOnlyAt port before door = (door.ports ≡ before.ports) ⊎ ListenedAt port before door
 
@@ -44,12 +46,12 @@ pub record IsClosed (door : DoorState) : Type 0 where
   pub closed : door.closed ≡ true
   pub none_left : IfSome door.links (λ links. links ≡ [])
 
--- The door is closed, and listened once more than before, at this port.
+-- The door is closed. Since the state `before`, it has listened exactly once, at this port.
 pub record IsClosedAt (port : ℕ) (before door : DoorState) : Type 0 where
   pub closed : IsClosed door
   pub at : ListenedAt port before door
 
--- The door listened once more than before, at this port; or at none, and no link was handed out.
+-- Since the state `before`, the door has listened exactly once, at this port; or it has not listened, and no link was served.
 abbrev pub ServedOnlyAt : ℕ → ℕ → DoorState → DoorState → Type 0
 ServedOnlyAt port served before door = ((served ≡ 0) × (door.ports ≡ before.ports)) ⊎ ListenedAt port before door
 
@@ -63,13 +65,14 @@ abbrev pub handing_out : Bool → DoorState → DoorState
 handing_out closed door =
     record door { closed = closed; given = door.given + 1; links = option_map (λ links. drop 1 links) door.links }
 
--- An accept went from the old to the new state. It returned no link and the door was closed, or it returned the first
--- link of an open door.
+-- The effect of a successful accept on the state. If it returned no link, the door was closed and nothing changed. If it returned a link,
+-- the door was open and handed out its first link.
 abbrev pub Accepts : {A : Type 0} → Option A → DoorState → DoorState → Type 0
 Accepts None old new = IsClosed old × (new ≡ old)
 Accepts (Some link) old new = IsOpenDoor old × (new ≡ handing_out new.closed old)
 
--- A link that was just handed out gives the first of the texts to come, has sent nothing and has a fault count of 0.
+-- The state of a link that was just handed out. `door` is the state of the door before that. The link gives its reader the bytes that
+-- the first item of `door.links` says, has sent nothing and has a fault count of 0.
 pub record IsFresh (door : DoorState) (left sent : Option (List ℕ)) (faults : ℕ) : Type 0 where
   pub gives : left ≡ option_map next_of door.links
   pub silent : sent ≡ option_map (λ _. []) door.returned

@@ -4,9 +4,9 @@ use Rattle.std.specs.Prelude.{◌≡◌, Bool, true, false, List, [], ◌∷◌,
 use Rattle.std.specs.Prelude.{drop, length, option_and_then, option_map}
 use Rattle.unl_base.specs.Doors.{next_of}
 
--- Whether a peer is connected; the bytes still to be read; the bytes sent since the last successful connect; what was sent
--- before that, a text for each earlier connection in order, after a first text of what was sent before the first connection;
--- what each later connection gives to its reader.
+-- The state of a peer: whether it is connected; the bytes still to be read; the bytes sent since the last successful connect; the bytes
+-- sent before that, as a list (`earlier`) with a first text for the time before the first connection and then a text for each earlier
+-- connection; and the bytes that each later connection will give to its reader (`replies`).
 pub record PeerState : Type 0 where
   pub connected : Bool
   pub left : Option (List ℕ)
@@ -18,12 +18,12 @@ pub record PeerState : Type 0 where
 abbrev pub no_other_parts : PeerState
 no_other_parts = record { connected = false; left = None; sent = None; earlier = None; replies = None }
 
--- All that a peer was sent, a text for each connection in order, after a first text of what was sent before the first
--- connection. The last text is what was sent since the last successful connect.
+-- All bytes sent to a peer: a first text for the time before the first connection, then a text for each connection in order. The last text
+-- has the bytes sent since the last successful connect.
 abbrev pub history_of : PeerState → Option (List (List ℕ))
 history_of peer = option_and_then (λ list. option_map (λ sent. list ++ sent ∷ []) peer.sent) peer.earlier
 
--- The state after a successful connect: the next reply is to be read, and nothing was sent. What was sent before is kept.
+-- The state after a successful connect: the next reply is to be read, nothing was sent, and the bytes sent before are in `earlier`.
 abbrev pub after_connect : PeerState → PeerState
 after_connect peer = record {
   connected = true;
@@ -43,7 +43,7 @@ pub record ReadsConnection {S E : Type 0} (remaining : S → Option (List ℕ))
   pub forwards : IfSome old (λ was. IfSome new (λ now. ReadConsumes (remaining was) (remaining now) result room))
   pub alone : IfNone old (result ≡ Ok 0)
 
--- A write goes to the stream of the connection if there is one, and appends to what was sent as far as that is
+-- A write goes to the stream of the connection if there is one, and appends to the bytes sent as far as these are
 -- observable. Without a connection all of the piece is dropped, and the write succeeds.
 pub record WritesConnection {S E : Type 0} (contents : S → Option (List ℕ))
     (old new : Option S) (result : Result ℕ E) (piece : List ℕ) : Type 0 where

@@ -1,4 +1,4 @@
-//! Concurrent jobs on scoped threads.
+//! Runs jobs concurrently on scoped threads, which all end before the call returns.
 ghost use Rattle.std.specs.Prelude.{◌≡◌, ◌<◌, ◌≤◌, ◌++◌, ◌∷◌, [], IfOk, OnErr, OnOk, map, vec_capacity, vec_len};
 ghost use Rattle.std.specs.List.{AllZip};
 
@@ -9,11 +9,13 @@ use std::sync::Wait;
 use std::thread;
 use std::thread::{Promise, PromisedHandle, Scope, Threads};
 
-/// Runs each job on its own thread and `here` on this one.
+/// Runs each job on its own thread and `here` on this one. Returns `here`, and the jobs in their order, once all have
+/// worked.
 ///
 /// # Errors
 ///
-/// `NotStarted`: a job can't be started. `Memory`: out of memory for the list of jobs. Either way `here` is cancelled.
+/// `NotStarted`: a thread can't be started. `Memory`: out of memory for the list of jobs. Either way `here` is
+/// cancelled, and the jobs that were already started are joined and dropped.
 pub fn run_concurrently<R: Threads + Wait, J: Job + Send + Drop, M: Job>(
     rt: &R,
     jobs: Vec<J>,
@@ -76,7 +78,7 @@ fn take_back<T>(x: &mut T)
     ensures { x.new ≡ x.old }
 {}
 
-/// The promise of a running job: it will be done, starting from the job as it was.
+/// The promise of a running job: `work` was called once on the job `was`, and the thread returns the job after it.
 #[derive(Drop)]
 struct Worked<J> {
     was: Snapshot<J>,
@@ -89,7 +91,8 @@ impl<J: Job> Promise<J> for Worked<J> {
 /// A job running on its thread.
 type Running<J> = PromisedHandle<J, Worked<J>>;
 
-/// Runs each job on its own thread and the errand on this one.
+/// Runs each job on its own thread and `errand` on this one. On an error `errand` is cancelled, as in
+/// [`run_concurrently`].
 fn run_around<R: Threads + Wait, J: Job + Send + Drop, E: ScopedWork + Drop>(
     rt: &R,
     jobs: Vec<J>,
@@ -131,7 +134,7 @@ fn run_around<R: Threads + Wait, J: Job + Send + Drop, E: ScopedWork + Drop>(
 ///
 /// # Errors
 ///
-/// Why not all jobs run, and those that were started.
+/// The reason why not all jobs were started, and the handles of those that were.
 fn start_all<'s, X, J: Job + Send + Drop + 's>(
     scope: &Scope<'s, X>,
     jobs: Vec<J>,
@@ -152,6 +155,11 @@ fn start_all<'s, X, J: Job + Send + Drop + 's>(
     Ok(started)
 }
 
+/// Starts a job on its own thread.
+///
+/// # Errors
+///
+/// `NotStarted`: the thread could not be started.
 fn start<'s, X, J: Job + Send + Drop + 's>(
     scope: &Scope<'s, X>,
     job: J,

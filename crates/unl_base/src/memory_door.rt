@@ -9,8 +9,8 @@ use crate::door::Door;
 use crate::memory::{Calls, MemoryLink};
 use std::marker::Model;
 
-/// The links of a door. Index `given` is the next link to hand out. The links taken back are at the indices below
-/// `back`.
+/// The links of a door. `given` is the index of the next link to hand out. The links taken back are at the indices
+/// below `back`, in the order of their return. The items from index `back` to index `given - 1` are `None`.
 #[derive(Debug, Drop)]
 struct Stock {
     links: Vec<Option<MemoryLink>>,
@@ -34,6 +34,7 @@ impl Model for Stock {
 }
 
 impl Stock {
+    /// The stock of a door that has handed out no link.
     fn new(links: Vec<Option<MemoryLink>>) -> Self
         requires { All IsNewLink links.items }
         ensures { result ≡ record { links = map to_come links.items; out = 0; returned = [] } }
@@ -60,7 +61,7 @@ impl Stock {
         link
     }
 
-    /// Takes back a link.
+    /// Takes back a link that was handed out.
     fn put(&mut self, link: MemoryLink)
         requires { 0 < self.old.out }
         ensures { self.new ≡ record {
@@ -139,7 +140,7 @@ impl Door for MemoryDoor {
 
     ghost faults = { λ door. door.calls.faults };
 
-    /// Fails on the calls listed in `failing`, and if out of memory to keep the port. Either is counted as a fault.
+    /// Fails on the calls listed in `failing`, and if there is no memory for the port. Either is counted as a fault.
     fn listen(&mut self, port: u16) -> Result<(), Failed>
         ensures listens { self.new.ports ≡ (if is_ok result then self.old.ports ++ port ∷ [] else self.old.ports) }
         ensures stock { self.new.stock ≡ self.old.stock }

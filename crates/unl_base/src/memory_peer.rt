@@ -79,7 +79,8 @@ impl Model for MemoryPeer {
 impl MemoryPeer {
     /// A peer that isn't connected yet. Each successful connect gives the next of `replies`, or an empty reply after
     /// the last. Whether connected or not, it takes writes while the bytes sent since the last connect fit into `room`.
-    /// The calls whose numbers, counted from 0, are in `failing` fail.
+    /// The calls of `connect`, `read` and `write` are numbered together from 0. Those whose numbers are in `failing`
+    /// fail.
     ///
     /// # Errors
     ///
@@ -162,7 +163,8 @@ impl Sink for MemoryPeer {
 
     ghost other_parts = { λ peer. record (peer_of peer) { sent = None } };
 
-    /// Takes all of `piece`. Fails exactly if `piece` is past the capacity or the call is listed in `failing`.
+    /// Takes all of `piece`. Fails exactly if the call is listed in `failing`, or if `piece` does not fit: the bytes
+    /// sent since the last connect and `piece` together exceed the `room` given to `new`. Takes nothing if it fails.
     fn write(&mut self, piece: &[u8]) -> Result<usize, Failed>
         requires { 0 < length piece.now }
         ensures writes { WritesStore result piece.now self.old.calls self.new.calls self.old.store self.new.store }
@@ -199,8 +201,8 @@ impl Peer for MemoryPeer {
 
     ghost state = { peer_of };
 
-    /// Fails on the calls listed in `failing`, and if out of memory for a copy of what was sent since the last connect.
-    /// Either is counted as a fault.
+    /// Fails if the call is listed in `failing`, or if memory runs out while the bytes sent since the last connect are
+    /// copied to `earlier`. Each failure increments the fault count.
     fn connect(&mut self) -> Result<(), Failed>
         ensures connects { OnOk result (peer_of self.new ≡ after_connect (peer_of self.old)) }
         ensures parts { OnErr result (peer_of self.new ≡ after_failed_connect (peer_of self.old)) }

@@ -1,4 +1,4 @@
-//! The pace of a repeated job.
+//! The pace of a repeated job: how long the job waits before each turn, and when its turns end.
 ghost use Rattle.std.specs.Prelude.{◌≡◌, ◌-◌, ℕ, Option, nat_lt, option_map, true, IfNone, IfSome};
 
 use std::marker::Model;
@@ -15,7 +15,7 @@ pub trait Pace {
         ensures goes_on { IfNone (turns self.old) (result ≡ true) };
 }
 
-/// A pace with a fixed number of turns, none of which it waits for.
+/// A pace with a fixed number of turns, without a wait before any of them.
 #[derive(Debug, Drop)]
 pub struct CountPace {
     turns: u64,

@@ -1,4 +1,4 @@
-//! A peer, which is reconnected for each exchange.
+//! A peer: the client side of a connection to a server, which is reconnected for each exchange.
 ghost use Rattle.std.specs.Prelude.{◌≡◌, false, is_some, OnErr, OnOk};
 ghost use Rattle.unl_base.specs.Faults.{HasCause};
 ghost use Rattle.unl_base.specs.Peers.{PeerState, after_connect, after_failed_connect};
@@ -7,14 +7,14 @@ ghost use Rattle.unl_base.specs.Streams.{HasEnded};
 use crate::Failed;
 use crate::link::Link;
 
-/// A link to a peer. Reads and writes affect only the latest connection, not the later ones.
+/// A link to a peer. Reads and writes affect only the current connection.
 pub trait Peer: Link {
     /// Whether it is connected. If observable, also the bytes still to be read, the bytes sent since the last connect and
     /// those sent on each earlier connection, and the bytes that each later connection will give to its reader.
     ghost state: { Self → PeerState };
 
-    /// Connects, replacing any existing connection. Nothing has been sent on the new connection yet, and what was sent
-    /// before is one more of the earlier texts.
+    /// Connects, replacing any existing connection. Nothing has been sent on the new connection yet. The bytes sent
+    /// since the last connect are appended, as one more text, to those sent on earlier connections.
     ///
     /// # Errors
     ///

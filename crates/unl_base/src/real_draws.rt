@@ -22,7 +22,7 @@ pub struct RealDraws<C: Clock + Copy + Drop> {
 }
 
 impl<C: Clock + Copy + Drop> RealDraws<C> {
-    /// Draws by `clock`. The generator is seeded with the clock's current time.
+    /// Draws with the time of `clock`. The generator is seeded with the clock's current time.
     pub fn new(clock: C) -> Self {
         let mut draws = RealDraws {
             clock,

@@ -6,7 +6,8 @@ use crate::pace::Pace;
 use std::thread;
 use std::time::{Clock, Duration};
 
-/// A pace without an end that sleeps for an interval before each turn, or a pace with no turns.
+/// A pace by a clock. With an interval, its turns never end, and it sleeps for the interval before each turn. Without
+/// an interval, it has no turns.
 #[derive(Drop)]
 pub struct RealPace<C: Clock + Drop> {
     clock: C,

@@ -1,4 +1,4 @@
-//! A runner of concurrent jobs.
+//! A spawner, which runs jobs concurrently: each on its own thread, or all in turn on the caller's thread.
 ghost use Rattle.std.specs.Prelude.{◌≡◌, ◌≤◌, ℕ, IfOk, OnErr, OnOk};
 ghost use Rattle.std.specs.List.{AllZip};
 ghost use Rattle.unl_base.specs.Faults.{Rose};
@@ -21,14 +21,15 @@ pub enum Placement<'a, R> {
     Nowhere,
 }
 
-/// A job that could not be started. Only this crate creates one, so nothing else can make a spawner count a fault.
+/// The failure to start a job, which [`Spawner::count_fault`] counts. Only this crate creates one, so no other crate
+/// can make a spawner count a fault.
 #[derive(Debug, Drop)]
 pub struct NotStarted {
     made_here: (),
 }
 
 impl NotStarted {
-    /// A job that could not be started just now.
+    /// The failure of the current attempt to start a job.
     fn now() -> Self {
         NotStarted { made_here: () }
     }
@@ -42,7 +43,7 @@ pub trait Spawner {
     /// The number of failures to start a job.
     ghost faults: { Self → ℕ };
 
-    /// Returns where it runs jobs.
+    /// Returns where this spawner runs jobs.
     fn place(&self) -> Placement<'_, Self::Rt>;
 
     /// Counts a failure to start a job.

@@ -8,11 +8,11 @@ use Rattle.unl_base.proofs.memory_door.Stock.take.Goals as goal
 more : (c : goal.After-self-2-1) → c.self.inside.given < length c.self.inside.links.items
 more c = omega (arith, c.self.invariant.0, c.if-self-len.false, c.len.ensures, c.self.inside.links.ok.0)
 
--- It is the one that the door removes.
+-- The next link is the link that the door removes.
 next : (c : goal.After-self-2-1) → c.take-link.result ≡ slice_index_or c.self.inside.links.items c.self.inside.given c.index_mut.result.now
 next c = c.take-link.ensures.value ∙ c.index_mut.ensures.value
 
--- It is present.
+-- The next link is present.
 there : (c : goal.After-self-2-1) → is_some c.take-link.result ≡ true
 there c =
     let stock = c.self.inside in
