@@ -23,7 +23,7 @@ use Rattle.unl_documents.specs.declared.state.State.{State}
 use Rattle.unl_documents.specs.Parameters.{AreRising}
 use Rattle.unl_documents.specs.States.{name_key}
 
--- What the index depends on: the names and the projects.
+-- The name and the project of each feature. The project index depends only on these.
 abbrev pub sides : List Feature → List (List ℕ × List ℕ)
 sides fs = map (λ f. (f.name, f.project)) fs
 
@@ -67,7 +67,7 @@ keeps_alike fs gs (SegmentRemoved n id) h = refl
 
 -- ---- one event
 
--- An item replaced by one that agrees with it.
+-- Replacing a feature by one with the same name and project changes no name and no project.
 set_alike : (fs : List Feature) (i : ℕ) (f g : Feature) → slice_get fs i ≡ Some g → f.name ≡ g.name → f.project ≡ g.project → sides (slice_set fs i f) ≡ sides fs
 set_alike [] zero f g at names projects = absurd cc
 set_alike [] (suc i) f g at names projects = absurd cc
@@ -77,7 +77,7 @@ set_alike (x ∷ xs) zero f g at names projects =
     ap (λ (p : List ℕ × List ℕ). p ∷ sides xs) first
 set_alike (x ∷ xs) (suc i) f g at names projects = ap (λ (ps : List (List ℕ × List ℕ)). (x.name, x.project) ∷ ps) (set_alike xs i f g at names projects)
 
--- A feature put in place of one with its name and project.
+-- The same for `put`, which finds the position by the name.
 put_at : (f g : Feature) (fs : List Feature) (place : ℕ) → place ≡ prefix_len (λ y. is_before (name_key y) f.name) fs → AreRising (map name_key fs) → slice_get fs place ≡ Some g
     → bytes_eq g.name f.name ≡ true → bytes_eq g.project f.project ≡ true → sides (put name_key f fs) ≡ sides fs
 put_at f g fs place is rising at named within =

@@ -1,4 +1,4 @@
--- What is gathered at the positions of a project is what is gathered from its features.
+-- The toggles of the features at the positions of a project are the toggles of the project's features.
 use Rattle.std.proofs.Common.{◌≡◌, ◌+◌, ℕ, zero, suc, Bool, true, false, cond, List, [], ◌∷◌, ◌++◌, length, Option, Some, None, option_and_then, option_map, inl, inr, refl, sym, ap, subst, ◌∙◌, append_assoc, true≢false}
 use Rattle.std.specs.Prelude.{All, IfSome, filter, filter_map, slice_get}
 use Rattle.std.specs.List.{cons_option}
@@ -24,18 +24,18 @@ item_behind : {T : Type 0} (prefix : List T) (x : T) (xs : List T) → slice_get
 item_behind [] x xs = refl
 item_behind (y ∷ prefix) x xs = item_behind prefix x xs
 
--- An item of a list has what all have.
+-- If all items of a list have a property, the item at an index has it.
 valid_at : {T : Type 0} (P : T → Type 0) (xs : List T) (i : ℕ) (x : T) → All P xs → Some x ≡ slice_get xs i → P x
 valid_at P [] i x h is = absurd cc
 valid_at P (y ∷ xs) zero x h is = let same : y ≡ x = cc in subst P same (All-head P y xs h)
 valid_at P (y ∷ xs) (suc i) x h is = valid_at P xs i x (All-tail P y xs h) is
 
 module _ {A : Type 0} (gather : Feature → Option A) (project : List ℕ) where
-  -- What is gathered from a feature of the project.
+  -- The result of `gather` for a feature of the project, otherwise `None`.
   abbrev here : Feature → Option A
   here f = cond (bytes_eq f.project project) (gather f) None
 
-  -- What is gathered from the feature at a position.
+  -- The result of `gather` for the feature at a position.
   abbrev at : List Feature → ℕ → Option A
   at whole place = option_and_then gather (slice_get whole place)
 
@@ -54,7 +54,7 @@ module _ {A : Type 0} (gather : Feature → Option A) (project : List ℕ) where
       decided true more = ap (λ o. cons_option (option_and_then gather o) (filter_map (at (prefix ++ f ∷ fs)) (places_from (length prefix + 1) project fs))) (item_behind prefix f fs) ∙ ap (cons_option (gather f)) more
       decided false more = more
 
--- Whether a project is the only one.
+-- A list of one project sees exactly that project.
 is_seen : (project other : List ℕ) → sees (Only (project ∷ [])) other ≡ bytes_eq other project
 is_seen project other =
     elim (cases_Bool (bytes_eq other project)) [
@@ -94,7 +94,7 @@ pub places_found : {R : Type 0} (query : ToggleQuery) (index : List ProjectPlace
 places_found query index None now is_index is = tt
 places_found query index (Some places) now is_index is = one_project_toggles (toggle_for query) query.state query.projects index (now places) is_index is
 
--- An item found at a position has what all items have.
+-- If all items of a list have a property, an item found at a position has it.
 pub found_valid : {R T : Type 0} (P : T → Type 0) (xs : List T) (i : ℕ) (found : Option R) (now : R → T) → All P xs → option_map now found ≡ slice_get xs i
     → IfSome found (λ x. P (now x))
 found_valid P xs i None now h is = tt

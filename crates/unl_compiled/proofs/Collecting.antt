@@ -1,4 +1,4 @@
--- Toggles appended to a sink, some and then more.
+-- The loops that append toggles to a sink, one step at a time.
 use Rattle.std.proofs.Common.{◌≡◌, ◌<◌, ◌+◌, ℕ, List, [], ◌∷◌, ◌++◌, length, take, get_or, Option, Some, None, refl, sym, ap, subst, ◌∙◌}
 use Rattle.std.specs.Prelude.{filter_map, option_to_list}
 use Rattle.std.specs.List.{cons_option}
@@ -20,7 +20,7 @@ one_chunk {X} chunks i chunk lt is =
 module _ {S X : Type 0} (Appends : List Data → S → S → Type 0)
     (joins : (first second : List Data) (start middle end : S) → Appends first start middle → Appends second middle end → Appends (first ++ second) start end)
     (toggle : X → Option Data) where
-  -- One item more.
+  -- One step of the loop over the items of a chunk, or over positions.
   pub collects_more : (xs : List X) (i : ℕ) (other x : X) (start middle end : S) → i < length xs → x ≡ get_or xs i other
       → Appends (filter_map toggle (take i xs)) start middle → Appends (option_to_list (toggle x)) middle end → Appends (filter_map toggle (take (i + 1) xs)) start end
   collects_more xs i other x start middle end lt is before this =
@@ -29,7 +29,7 @@ module _ {S X : Type 0} (Appends : List Data → S → S → Type 0)
       ∙ filter_map-append toggle (take i xs) (x ∷ []) ∙ ap (λ (ds : List Data). filter_map toggle (take i xs) ++ ds) (one_found (toggle x)) in
       subst (λ (ds : List Data). Appends ds start end) (sym parts) (joins _ _ start middle end before this)
 
-  -- One chunk more.
+  -- One step of the loop over chunks.
   pub collects_chunk : (chunks : List (List X)) (i : ℕ) (chunk : List X) (start middle end : S) → i < length chunks → chunk ≡ get_or chunks i chunk
       → Appends (filter_map toggle (joined (take i chunks))) start middle → Appends (filter_map toggle chunk) middle end → Appends (filter_map toggle (joined (take (i + 1) chunks))) start end
   collects_chunk chunks i chunk start middle end lt is before this =

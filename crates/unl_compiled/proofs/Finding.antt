@@ -1,4 +1,4 @@
--- Lookups by name or id, and what is visible.
+-- Lookups by id, and the toggles of visible features.
 use Rattle.std.proofs.Common.{◌≡◌, ℕ, ◌&&◌, ◌==◌, Bool, true, false, cond, List, [], ◌∷◌, Option, Some, None, inl, inr, refl, ap}
 use Rattle.std.specs.Prelude.{filter, filter_map}
 use Rattle.std.specs.List.{find, cons_option}
@@ -26,7 +26,7 @@ segment_is id (s ∷ ss) =
     let others = segment_is id ss in
     λ i. cond (first i) (Some s) (others i)
 
--- The toggles of the visible features.
+-- Skipping hidden features gives the same toggles as first removing the hidden features.
 pub seen_toggles : (toggle : Feature → Option Data) (seen : Feature → Bool) (fs : List Feature) → filter_map (λ f. cond (seen f) (toggle f) None) fs ≡ filter_map toggle (filter seen fs)
 seen_toggles toggle seen [] = refl
 seen_toggles toggle seen (f ∷ fs) =

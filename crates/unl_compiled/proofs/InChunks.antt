@@ -26,7 +26,8 @@ all_parts P (x ∷ xs) ys h =
     let rest = all_parts P xs ys (All-tail P x (xs ++ ys) h) in
     (All-cons P x xs (All-head P x (xs ++ ys) h) rest.0, rest.1)
 
--- What holds for each item of the chunks from an index on holds for the chunk there, and for those after it.
+-- If a property holds for each item of the chunks from an index on, it holds for the items of the chunk at the index, and for
+-- those of the later chunks.
 pub all_at : {T : Type 0} (P : T → Type 0) (chunks : List (List T)) (i : ℕ) (chunk : List T) → i < length chunks → chunk ≡ get_or chunks i chunk → All P (joined (drop i chunks))
     → All P chunk × All P (joined (drop (i + 1) chunks))
 all_at P chunks i chunk lt is h = all_parts P chunk (joined (drop (i + 1) chunks)) (rw (chunk_at chunks i chunk lt is) at h)
@@ -55,7 +56,7 @@ places_join p place (f ∷ fs) gs =
       | inr other ↦ rw other rest
     ]
 
--- One chunk more of them.
+-- The positions of a project's features, after one more chunk.
 pub places_more : (p : List ℕ) (chunks : List (List Feature)) (i : ℕ) (chunk : List Feature) (prefix new whole : List ℕ) (place next : ℕ) → i < length chunks → chunk ≡ get_or chunks i chunk
     → new ≡ prefix ++ places_from place p chunk → next ≡ place + length chunk → prefix ++ places_from place p (joined (drop i chunks)) ≡ whole
     → new ++ places_from next p (joined (drop (i + 1) chunks)) ≡ whole
@@ -83,7 +84,7 @@ failing test (x ∷ xs) ys h =
       | inr not ↦ rw not refl
     ]
 
--- The position within its chunk, after all chunks before that.
+-- The position of a key in the list is the length of the earlier chunks plus its position in its chunk.
 pub place_in_chunk : {T : Type 0} (key : T → List ℕ) (k : List ℕ) (chunks : List (List T)) (place : ℕ) (chunk : List T) → Held key k chunks place chunk
     → prefix_len (is_below key k) (joined chunks) ≡ length (joined (take place chunks)) + prefix_len (is_below key k) chunk
 place_in_chunk {T} key k chunks place chunk h =
@@ -101,7 +102,7 @@ all_taken [] (suc place) none = refl
 all_taken (x ∷ xs) zero none = absurd cc
 all_taken {T} (x ∷ xs) (suc place) none = ap (λ (ys : List T). x ∷ ys) (all_taken xs place none)
 
--- The position after all chunks.
+-- If all chunks end before the key, its position is the length of the list.
 pub place_at_end : {T : Type 0} (key : T → List ℕ) (k : List ℕ) (chunks : List (List T)) (place : ℕ) → NoneIsEmpty chunks → AreRising (map key (joined chunks))
     → place ≡ prefix_len (ends_before key k) chunks → None ≡ slice_get chunks place → prefix_len (is_below key k) (joined chunks) ≡ length (joined (take place chunks))
 place_at_end {T} key k chunks place full rising is none =

@@ -82,7 +82,7 @@ moved_and c [] (first ∷ news) e new all is = absurd all
 moved_and c (first ∷ es) [] e new all is = absurd all
 moved_and c (first ∷ es) (second ∷ news) e new all is = (all.0, moved_and c es news e new all.1 is)
 
--- One entry more.
+-- If the first entries of an index are moved, and the next one is, then the entries up to that one are moved.
 pub moved_more : (c : Change) (index news : List ProjectPlaces) (i : ℕ) (e new : ProjectPlaces) → i < length index → e ≡ get_or index i e → AllMoved c (take i index) news → IsMoved c e new → AllMoved c (take (i + 1) index) (news ++ new ∷ [])
 moved_more c index news i e new lt at all is =
     let taken : take (i + 1) index ≡ take i index ++ e ∷ [] = take_more index i e lt ∙ ap (λ (other : ProjectPlaces). take i index ++ other ∷ []) (sym at) in
@@ -151,7 +151,7 @@ shift_is p less more place (f ∷ fs) =
       | inr other ↦ rw other rest
     ]
 
--- One position more is shifted in place.
+-- One step of the loop of `shift_all`: after it, one more position is shifted.
 pub one_more : (f : ℕ → ℕ) (places : List ℕ) (i : ℕ) → i < length places → slice_set (map f (take i places) ++ drop i places) i (f (get_or (map f (take i places) ++ drop i places) i 0)) ≡ map f (take (i + 1) places) ++ drop (i + 1) places
 one_more f [] i lt = absurd (omega (arith, lt))
 one_more f (n ∷ ns) zero lt = refl
@@ -163,7 +163,7 @@ length_if : (so : Bool) (place : ℕ) → count_if so ≡ length (place_if so pl
 length_if true place = refl
 length_if false place = refl
 
--- The positions before the change, the removed one, and those after it.
+-- `moved` of a list in three parts: positions before the change, the removed position if there is one, and later positions.
 moved_parts : (c : Change) (p ns low high : List ℕ) → ns ≡ low ++ (place_if (is_of p c.removed) c.place ++ high) → count_below c.place ns ≡ length low
     → moved c p ns ≡ low ++ (place_if (is_of p c.inserted) c.place ++ map (shifted (count_of c.removed) (count_of c.inserted)) high)
 moved_parts c p ns low high is at =
@@ -174,7 +174,7 @@ moved_parts c p ns low high is at =
     ap (drop (count_if (is_of p c.removed))) back ∙ ap (λ (n : ℕ). drop n (removed ++ high)) (length_if (is_of p c.removed) c.place) ∙ drop-append_seam removed high in
     λ i. prefix i ++ (place_if (is_of p c.inserted) c.place ++ map (shifted (count_of c.removed) (count_of c.inserted)) (rest i))
 
--- At most one feature at `place`, of the optional project.
+-- The list has one feature, of that project, if there is a project, and is empty otherwise. The feature is at `place`.
 pub record IsAt (place : ℕ) (project : Option (List ℕ)) (fs : List Feature) : Type 0 where
   pub count : length fs ≡ count_of project
   pub places : (p : List ℕ) → places_from place p fs ≡ place_if (is_of p project) place
@@ -206,7 +206,7 @@ moved_places c p prefix old new back at removed inserted =
 
 -- ---- the features split by a name
 
--- The features before the name, the one that has it, and those after it.
+-- The features in three parts: those with a lesser name, the feature with the name if there is one, and the others.
 record Named (name : List ℕ) (fs : List Feature) (place : ℕ) (project : Option (List ℕ)) (old : List Feature) : Type 0 where
   parts : fs ≡ below name_key name fs ++ (old ++ above name_key name fs)
   low : length (below name_key name fs) ≡ place
@@ -269,7 +269,7 @@ by_name name fs place is rising = decided (project_of name fs) refl
         )
     decided (Some project) there = found (slice_get fs place) project refl there
 
--- The index after other features replace the one of a name.
+-- The index after the feature with a name, if there is one, is replaced by at most one other feature.
 replaced : (name : List ℕ) (fs others : List Feature) (c : Change) (index new : List ProjectPlaces) → AreRising (map name_key fs) → c.place ≡ prefix_len (λ y. is_before (name_key y) name) fs
     → c.removed ≡ project_of name fs → IsAt c.place c.inserted others → IsIndex fs index → ((p : List ℕ) → IsParted c.place (listed p index) → listed p new ≡ moved c p (listed p index))
     → IsIndex (below name_key name fs ++ (others ++ above name_key name fs)) new
@@ -285,7 +285,7 @@ pub index_with : (f : Feature) (fs : List Feature) (c : Change) (index new : Lis
 index_with f fs c index new rising at removed inserted is goes =
     replaced f.name fs (f ∷ []) c index new rising at removed (subst (λ (o : Option (List ℕ)). IsAt c.place o (f ∷ [])) (sym inserted) (one_there c.place f)) is goes
 
--- The index after the feature of a name is removed.
+-- The index after the feature with a name is removed.
 pub index_without : (name : List ℕ) (fs : List Feature) (c : Change) (index new : List ProjectPlaces) → AreRising (map name_key fs) → c.place ≡ prefix_len (λ y. is_before (name_key y) name) fs
     → c.removed ≡ project_of name fs → c.inserted ≡ None → IsIndex fs index → ((p : List ℕ) → IsParted c.place (listed p index) → listed p new ≡ moved c p (listed p index)) → IsIndex (without name_key name fs) new
 index_without name fs c index new rising at removed inserted is goes =

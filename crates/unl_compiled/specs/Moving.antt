@@ -14,7 +14,7 @@ pub record Change : Type 0 where
   pub removed : Option (List ℕ)
   pub inserted : Option (List ℕ)
 
--- How many features an optional project counts for: 1 or 0.
+-- The number of features that a change removes or inserts: 1 if there is a project, otherwise 0.
 abbrev pub count_of : Option (List ℕ) → ℕ
 count_of None = 0
 count_of (Some project) = 1
@@ -27,11 +27,11 @@ is_of project other = option_map_or (λ p. bytes_eq p project) other false
 abbrev pub count_if : Bool → ℕ
 count_if so = if so then 1 else 0
 
--- The position if so, else nothing.
+-- The list of one position if the flag is set, otherwise the empty list.
 abbrev pub place_if : Bool → ℕ → List ℕ
 place_if so place = if so then place ∷ [] else []
 
--- A position after `less` features are removed before it and `more` inserted.
+-- The position after `less` features before it are removed and `more` features are inserted before it.
 abbrev pub shifted : ℕ → ℕ → ℕ → ℕ
 shifted less more place = place - less + more
 
@@ -39,12 +39,12 @@ shifted less more place = place - less + more
 abbrev pub IsParted : ℕ → List ℕ → Type 0
 IsParted place places = IsPartitionedBy (λ n. nat_lt n place) places
 
--- How many of the positions, which ascend, are less than `place`.
+-- The number of positions that are less than `place`. The positions ascend.
 abbrev pub count_below : ℕ → List ℕ → ℕ
 count_below place places = prefix_len (λ n. nat_lt n place) places
 
--- The positions of a project's features after a change: those before it, the inserted feature's, and the rest shifted,
--- without the removed feature's.
+-- The positions of a project's features after a change: first the positions before the change, then the position of the
+-- inserted feature if it has this project, then the later positions, shifted and without that of the removed feature.
 abbrev pub moved : Change → List ℕ → List ℕ → List ℕ
 moved c project places =
     take (count_below c.place places) places

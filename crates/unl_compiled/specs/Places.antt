@@ -10,7 +10,7 @@ use Rattle.unl_documents.specs.declared.strategy.Strategy.{Strategy}
 use Rattle.unl_tokens.specs.declared.projects.Projects.{Projects}
 use Rattle.unl_tokens.specs.declared.projects.Projects.TheVariants.{All, Only}
 
--- The positions of a project's features in ascending order, if the first feature of the list is at `place`.
+-- The positions of a project's features in ascending order, where the first feature of the list has position `place`.
 abbrev pub places_from : ℕ → List ℕ → List Feature → List ℕ
 places_from place project [] = []
 places_from place project (f ∷ fs) =
@@ -36,13 +36,13 @@ IsIndex features index = (project : List ℕ) → listed project index ≡ place
 abbrev pub if_name : List ℕ → Feature → Option Feature
 if_name name f = if bytes_eq f.name name then Some f else None
 
--- The name, if it is the only one.
+-- The name in a list of exactly one name.
 abbrev pub only_one : List (List ℕ) → Option (List ℕ)
 only_one [] = None
 only_one (name ∷ []) = Some name
 only_one (name ∷ other ∷ names) = None
 
--- The project, if there is one only.
+-- The project, if the projects are exactly one named project.
 abbrev pub one_project : Projects → Option (List ℕ)
 one_project All = None
 one_project (Only names) = only_one names

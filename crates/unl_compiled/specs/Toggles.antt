@@ -24,7 +24,7 @@ variant_data on v = object (
     with field.Name (string v.name)
     no_members))))
 
--- The JSON of a feature as a client sees it.
+-- The JSON of a toggle: a feature and its evaluation, as a frontend client gets it.
 unfoldable pub toggle_data : Feature → Evaluation → Data
 toggle_data f e = object (
     with field.Enabled (boolean e.on) (
@@ -33,7 +33,7 @@ toggle_data f e = object (
     with field.Variant (variant_data e.on e.variant)
     no_members))))
 
--- The toggle, if all are asked for or it is on.
+-- The toggle, if all toggles are asked for or the feature is on.
 abbrev pub toggle_if : Bool → Feature → Evaluation → Option Data
 toggle_if all f e = if all || e.on then Some (toggle_data f e) else None
 
@@ -41,7 +41,7 @@ toggle_if all f e = if all || e.on then Some (toggle_data f e) else None
 unfoldable pub toggle_of : State → Bool → Fields → Moment → Feature → Option Data
 toggle_of state all context moment f = toggle_if all f (feature_evaluation state f context moment)
 
--- The body that has these toggles.
+-- The body with these toggles: `{"toggles":[..]}`.
 unfoldable pub written_toggles : List Data → Data
 written_toggles toggles = object (
     with field.Toggles (array (items_of toggles))
@@ -51,7 +51,8 @@ written_toggles toggles = object (
 unfoldable pub toggles_data : State → Bool → Fields → Moment → Data
 toggles_data state all context moment = written_toggles (filter_map (toggle_of state all context moment) state.features)
 
--- A query for the toggles of the features of a state whose project is seen: all of them, or those that are on.
+-- A query for the toggles of a state's visible features, that is of the features whose project is in `projects`: all of these
+-- toggles, or only those that are on.
 pub record ToggleQuery : Type 0 where
   pub state : State
   pub projects : Projects
@@ -59,7 +60,7 @@ pub record ToggleQuery : Type 0 where
   pub context : Fields
   pub moment : Moment
 
--- The part of the state that the query's projects see.
+-- The visible part of the query's state: the visible features, and all segments.
 abbrev pub visible : ToggleQuery → State
 visible query = view_of (sees query.projects) query.state
 
@@ -67,7 +68,7 @@ visible query = view_of (sees query.projects) query.state
 abbrev pub toggle_for : ToggleQuery → Feature → Option Data
 toggle_for query f = toggle_of (visible query) query.all query.context query.moment f
 
--- The toggle of a feature, if its project is seen and the query asks for it.
+-- The toggle of a feature, if the feature is visible and the query asks for the toggle.
 abbrev pub toggle_if_seen : ToggleQuery → Feature → Option Data
 toggle_if_seen query f = if sees query.projects f.project then toggle_for query f else None
 

@@ -11,9 +11,9 @@ use std::alloc::Global;
 use unl_dependencies::Evaluation;
 use unl_documents::{Chunk, Feature, List, Memory, Shared};
 
-/// Takes toggles, one after the other. Fails only if it runs out of memory, and may then have taken a part of one.
+/// Takes toggles, one after the other. Fails only if out of memory, and may then have taken part of a toggle.
 pub(crate) trait ToggleSink {
-    /// These toggles were appended.
+    /// Relates a sink to its state after these toggles were appended.
     ghost appends: { List Data → Self → Self → Type 0 };
 
     /// Appends the toggle of an evaluated feature.
@@ -25,7 +25,7 @@ pub(crate) trait ToggleSink {
     ) -> Result<(), Memory>
         ensures { OnOk result (appends (toggle_data feature.now evaluation.now ∷ []) self.old self.new) };
 
-    /// What is unchanged had nothing appended.
+    /// Appending no toggles leaves the sink unchanged.
     ghost none: { (sink : Self) → appends [] sink sink };
 
     /// Appending some toggles and then others appends all of them.
@@ -33,7 +33,8 @@ pub(crate) trait ToggleSink {
         → appends first start middle → appends second middle end → appends (first ++ second) start end };
 }
 
-/// Appends the toggles that a query asks for, in the order of their names. Those of one project are found by the index.
+/// Appends the toggles that a query asks for, in the order of their names. If the query has exactly one project, the
+/// project index has the positions of its features; otherwise each feature is checked.
 pub(crate) fn collect<S: ToggleSink>(
     sink: &mut S,
     alloc: Global,
@@ -47,7 +48,7 @@ pub(crate) fn collect<S: ToggleSink>(
     }
 }
 
-/// Appends the toggles of the features at these positions.
+/// Appends the toggles of the features at these positions, as far as the query asks for them.
 fn collect_at<S: ToggleSink>(
     sink: &mut S,
     alloc: Global,
@@ -77,7 +78,7 @@ fn collect_place<S: ToggleSink>(
     }
 }
 
-/// Appends the toggles of the features of the chunks whose project is seen.
+/// Appends the toggles of the visible features in these chunks, as far as the query asks for them.
 fn collect_seen<S: ToggleSink>(
     sink: &mut S,
     alloc: Global,
@@ -93,7 +94,7 @@ fn collect_seen<S: ToggleSink>(
     Ok(())
 }
 
-/// Appends the toggles of the features of a chunk whose project is seen.
+/// Appends the toggles of the visible features in a chunk, as far as the query asks for them.
 fn collect_chunk<S: ToggleSink>(
     sink: &mut S,
     alloc: Global,
@@ -109,7 +110,7 @@ fn collect_chunk<S: ToggleSink>(
     Ok(())
 }
 
-/// Appends the toggle of a feature, if its project is seen and the query asks for it.
+/// Appends the toggle of a feature, if the feature is visible and the query asks for the toggle.
 fn collect_if_seen<S: ToggleSink>(
     sink: &mut S,
     alloc: Global,

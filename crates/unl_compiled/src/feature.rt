@@ -16,7 +16,7 @@ use unl_delta::keyed::Keyed;
 use unl_documents::{Feature, List, Memory, Shared, Strategy, Text};
 use unl_strategies::{Moment, rule};
 
-/// A feature and the compiled constraints of its strategies. In contracts the value is the feature.
+/// A feature and the compiled constraints of each of its strategies. In contracts the value is the feature.
 #[derive(Drop)]
 pub(crate) struct CompiledFeature {
     document: Shared<Feature>,
@@ -94,8 +94,8 @@ impl CompiledFeature {
     }
 }
 
-/// Whether a context meets all constraints of a strategy, given compiled, and each segment that it names. `now` is in
-/// milliseconds since 1970.
+/// Whether a context meets all constraints of a strategy (`constraints` are the compiled ones) and each segment that
+/// the strategy names. `now` is in milliseconds since 1970.
 fn is_eligible(
     alloc: Global,
     strategy: &Strategy,

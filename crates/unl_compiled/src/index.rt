@@ -10,10 +10,12 @@ use std::alloc::Global;
 use unl_documents::{Chunk, List, Memory, Shared, Text, TryClone};
 use unl_tokens::Projects;
 
-/// A project, and the positions of its features in ascending order.
+/// A project, and the positions of its features in the list of all features. Positions count from 0.
 #[derive(Drop)]
 pub(crate) struct ProjectPlaces {
+    /// The name of the project.
     pub project: Shared<Text>,
+    /// The positions of its features, ascending.
     pub places: List<usize>,
 }
 
@@ -32,8 +34,8 @@ pub(crate) fn index_of(
     Ok(index)
 }
 
-/// Adds the features of a chunk to the index. `first` is the position of the chunk's first feature. Returns the position
-/// after its last one.
+/// Adds the features of a chunk to the index. `first` is the position of the chunk's first feature. Returns the
+/// position after its last one.
 fn add_chunk(
     index: &mut List<ProjectPlaces>,
     alloc: Global,
@@ -58,7 +60,7 @@ fn next_place(place: usize) -> Result<usize, Memory>
     place.checked_add(1).ok_or(Memory)
 }
 
-/// Adds a position to those of a project.
+/// Adds a position to the entry of a project. Adds an entry if the project isn't listed.
 fn add(
     index: &mut List<ProjectPlaces>,
     alloc: Global,
@@ -90,7 +92,7 @@ pub(crate) fn add_project(
     index.push(ProjectPlaces { project, places })
 }
 
-/// The slot of a project in the index, or the length of the index if the project isn't listed.
+/// The position of a project's entry in the index, or the length of the index if the project isn't listed.
 pub(crate) fn slot_of(index: &[ProjectPlaces], project: &str) -> usize
     ensures slot { result ≡ prefix_len (λ e. not (bytes_eq e.project project.now)) index.now }
     ensures inside { result ≤ length index.now }
@@ -115,7 +117,7 @@ pub(crate) fn places_of<'a>(index: &'a [ProjectPlaces], project: &str) -> &'a [u
     &[]
 }
 
-/// The positions of the features of these projects, if they are one project only.
+/// The positions of the only project's features. `None` unless `projects` is exactly one project.
 pub(crate) fn places_of_one<'a>(
     index: &'a [ProjectPlaces],
     projects: &Projects,

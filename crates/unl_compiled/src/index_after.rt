@@ -1,4 +1,5 @@
-//! The project index after events: shared, adjusted or rebuilt.
+//! The project index after the events of a batch: for each project, the positions of its features in the list of all
+//! features. It is shared with the old index, adjusted, or rebuilt.
 ghost use Rattle.std.specs.Prelude.{◌≡◌, [], ◌∷◌, false, true, IfOk, map, option_map};
 ghost use Rattle.std.specs.List.{list_all};
 ghost use Rattle.std.specs.Option.{option_map_or};
@@ -99,7 +100,7 @@ fn places_with(
     Shared::new(alloc, changed(alloc, projects.as_slice(), &change)?)
 }
 
-/// The project index after the feature of a name is removed.
+/// The project index after the feature with this name, if there is one, is removed.
 fn places_without(
     alloc: Global,
     name: &Text,
@@ -131,8 +132,8 @@ fn keeps_places(parts: &Parts, events: &[Event]) -> bool
     true
 }
 
-/// Whether the event leaves each feature at its position and in its project: it updates a feature within its project,
-/// removes one that isn't there, or is on a segment.
+/// Whether the event leaves each feature at its position and in its project: it updates a feature without a change of
+/// its project, removes a feature that isn't there, or concerns a segment.
 fn keeps_place(parts: &Parts, event: &Event) -> bool
     requires { AreRising (map name_key parts.now.features) }
     ensures { result ≡ keeps_place parts.now.features event.now }
@@ -149,7 +150,7 @@ fn keeps_place(parts: &Parts, event: &Event) -> bool
     }
 }
 
-/// The project of the feature of a name. The features are in ascending order of their names.
+/// The project of the feature with this name, if there is one. The features are in ascending order of their names.
 fn project_of<'a>(parts: &'a Parts, name: &Text) -> Option<&'a Text>
     requires { AreRising (map name_key parts.now.features) }
     ensures { option_map (λ t. t.now) result ≡ delta_state.project_of name.now parts.now.features }
@@ -157,7 +158,7 @@ fn project_of<'a>(parts: &'a Parts, name: &Text) -> Option<&'a Text>
     project_in(document_of(feature_named(parts, name.as_str())))
 }
 
-/// The project of a lookup's result.
+/// The project of the found feature, if one was found.
 fn project_in(found: Option<&Feature>) -> Option<&Text>
     ensures { option_map (λ t. t.now) result ≡ option_map (λ f. f.project) (option_map (λ f. f.now) found.entry) }
 {

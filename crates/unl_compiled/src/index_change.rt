@@ -1,4 +1,4 @@
-//! The project index after one feature is added, removed or moved to another project.
+//! Updates the project index when one feature is added, removed or moved to another project.
 ghost use Rattle.std.specs.Prelude.{◌≡◌, ◌++◌, ◌≤◌, false, ℕ, List, Some, drop, length, map, option_map, IfOk, OnOk};
 ghost use Rattle.std.specs.Option.{option_map_or};
 ghost use Rattle.std.specs.Str.{bytes_eq};
@@ -11,12 +11,15 @@ use std::alloc::Global;
 use std::marker::Model;
 use unl_documents::{List, Memory, Text};
 
-/// A change at one position: a feature of project `removed` is removed, and then one of project `inserted` is inserted. Each is
-/// optional.
+/// A change at one position: a feature of project `removed` is removed, and then one of project `inserted` is inserted.
+/// Each is optional.
 #[derive(Drop)]
 pub(crate) struct Change<'a> {
+    /// The position of the change in the list of all features.
     pub place: usize,
+    /// The project of the removed feature, if one is removed.
     pub removed: Option<&'a Text>,
+    /// The project of the inserted feature, if one is inserted.
     pub inserted: Option<&'a Text>,
 }
 
@@ -135,7 +138,7 @@ fn changed_places(
     Ok(List::from_vec(list))
 }
 
-/// How many of the positions, which ascend, are less than `place`.
+/// The number of positions that are less than `place`, by binary search. The positions ascend.
 fn count_below_of(places: &[usize], place: usize) -> usize
     ensures cut { IsParted place places.now → result ≡ count_below place places.now }
     ensures inside { result ≤ length places.now }
@@ -143,7 +146,7 @@ fn count_below_of(places: &[usize], place: usize) -> usize
     places.partition_point(|other| *other < place)
 }
 
-/// All but the first if `goes`, otherwise all.
+/// The positions without the first one if `goes`, otherwise all of them.
 fn without_first(places: &[usize], goes: bool) -> &[usize]
     ensures { result.now ≡ drop (count_if goes) places.now }
 {
@@ -156,7 +159,7 @@ fn without_first(places: &[usize], goes: bool) -> &[usize]
     }
 }
 
-/// Adds the position if `so`.
+/// Appends the position if `so`.
 fn push_if(list: &mut Vec<usize>, so: bool, place: usize) -> Result<(), Memory>
     ensures { OnOk result (list.new.items ≡ list.old.items ++ place_if so place) }
 {
@@ -166,7 +169,7 @@ fn push_if(list: &mut Vec<usize>, so: bool, place: usize) -> Result<(), Memory>
     Ok(())
 }
 
-/// The positions after `less` features are removed before them and `more` inserted.
+/// Each position after `less` features before it are removed and `more` features are inserted before it.
 fn all_shifted(
     alloc: Global,
     places: &[usize],
@@ -189,15 +192,15 @@ fn shift_all(places: &mut [usize], less: usize, more: usize) -> Result<(), Memor
     Ok(())
 }
 
-/// The position after `less` features are removed before it and `more` inserted. An overflow is reported as out of
-/// memory.
+/// The position after `less` features before it are removed and `more` features are inserted before it. An overflow is
+/// reported as out of memory.
 fn shifted(place: usize, less: usize, more: usize) -> Result<usize, Memory>
     ensures { IfOk result (λ n. n ≡ shifted less more place) }
 {
     place.saturating_sub(less).checked_add(more).ok_or(Memory)
 }
 
-/// How many features the project counts for: 1 for a project, 0 for none.
+/// The number of features that a change removes or inserts: 1 if there is a project, otherwise 0.
 fn count_of(project: Option<&Text>) -> usize
     ensures { result ≡ count_of (option_map (λ t. t.now) project.entry) }
 {
@@ -207,7 +210,7 @@ fn count_of(project: Option<&Text>) -> usize
     }
 }
 
-/// Whether a project was found, and is this one.
+/// Whether `found` is this project. False if it is `None`.
 pub(crate) fn is_project(found: Option<&Text>, project: &Text) -> bool
     ensures { result ≡ option_map_or (λ p. bytes_eq p project.now) (option_map (λ t. t.now) found.entry) false }
 {

@@ -20,9 +20,9 @@ use unl_documents::{Chunk, ChunkedList, Feature, List, Memory, Segment, Shared, 
 /// value is the state that they were compiled from.
 #[derive(Drop)]
 pub(crate) struct Parts {
-    /// In ascending order of names.
+    /// The features, in ascending order of names.
     pub features: ChunkedList<CompiledFeature>,
-    /// In ascending order of ids.
+    /// The segments, in ascending order of ids.
     pub segments: List<Shared<CompiledSegment>>,
 }
 
@@ -54,7 +54,7 @@ impl Parts {
         })
     }
 
-    /// The chunks of the feature list. None is empty.
+    /// The chunks in which the feature list is stored. Joined they are the list, and none is empty.
     pub(crate) fn chunks(&self) -> &[Chunk<CompiledFeature>]
         ensures features { joined result.now ≡ self.now.features }
         ensures full { NoneIsEmpty result.now }
@@ -62,7 +62,7 @@ impl Parts {
         self.features.chunks()
     }
 
-    /// The feature at a position.
+    /// The feature at a position, counted from 0.
     pub(crate) fn feature(&self, place: usize) -> Option<&CompiledFeature>
         ensures { option_map (λ f. f.now) result ≡ slice_get self.now.features place }
     {
@@ -77,9 +77,9 @@ impl Parts {
         feature_at(&self.features, feature).constraints(strategy)
     }
 
-    /// The parts after a batch's events, applied to the parts of version `number`. If the first event is a hydration, its
-    /// state replaces these parts and all later events apply. Otherwise only the events above `number` apply. Without a
-    /// hydration, features and segments that no event names are shared with these parts.
+    /// The parts after a batch's events, applied to the parts of version `number`. If the first event is a hydration,
+    /// its state replaces these parts and all later events apply. Otherwise only the events above `number` apply.
+    /// Without a hydration, features and segments that no event names are shared with these parts.
     #[tactic(auto, unfolding(crate::specs::Next::state_after))]
     pub(crate) fn next(&self, alloc: Global, number: u64, events: &[Event]) -> Result<Parts, Memory>
         requires order { delta_state.IsInOrder self.now }
@@ -193,7 +193,8 @@ fn step_above(alloc: Global, parts: Parts, event: &Event, above: u64) -> Result<
     Ok(parts)
 }
 
-/// The parts after one event. Only the feature or segment that it names is recompiled; a hydration recompiles everything.
+/// The parts after one event. Only the feature or segment that it names is recompiled; a hydration recompiles
+/// everything.
 fn step(alloc: Global, parts: Parts, event: &Event) -> Result<Parts, Memory>
     requires { delta_state.IsInOrder parts }
     ensures { IfOk result (λ p. p ≡ delta_state.step event.now parts) }

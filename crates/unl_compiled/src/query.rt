@@ -1,4 +1,4 @@
-//! Queries for toggles.
+//! A query for toggles: the arguments of the frontend endpoints, and the compiled state that they are evaluated over.
 ghost use Rattle.std.specs.Prelude.{◌≡◌, ◌||◌, All, IfOk, IfSome, filter_map, option_map, slice_get};
 ghost use Rattle.unl_compiled.specs.Toggles.{toggle_at, toggle_if_seen, toggles_for, visible};
 ghost use Rattle.unl_dependencies.specs.Evaluation.{feature_evaluation};
@@ -18,20 +18,20 @@ use unl_documents::{Chunk, Memory};
 use unl_strategies::Moment;
 use unl_tokens::Projects;
 
-/// A query for toggles: what is asked, over a valid state and its index by project.
+/// A query for the toggles of a state's visible features. The state is valid, and the index is that of its features.
 #[derive(Drop)]
 pub(crate) struct ToggleQuery<'a> {
     /// The compiled state.
     pub parts: &'a Parts,
     /// The state's index by project.
     pub index: &'a [ProjectPlaces],
-    /// The projects that are seen.
+    /// The projects whose features are visible.
     pub projects: &'a Projects,
-    /// Whether the toggles that are off are asked for too.
+    /// Whether the toggles that are off are included.
     pub all: bool,
     /// The context of the evaluation.
     pub context: &'a Context,
-    /// The time of the evaluation and its source of random numbers.
+    /// The time of the evaluation, its source of random numbers and the host name.
     pub moment: &'a Moment<'a>,
 }
 
@@ -69,7 +69,7 @@ impl<'a> ToggleQuery<'a> {
         self.parts.chunks()
     }
 
-    /// The feature at a position of the state.
+    /// The feature at a position in the list of all features, visible or not.
     pub(crate) fn feature(&self, place: usize) -> Option<&CompiledFeature>
         ensures feature { option_map (λ f. f.now) result ≡ slice_get self.now.state.features place }
         ensures valid { IfSome result (λ f. IsValidFeature f.now) }
@@ -77,14 +77,14 @@ impl<'a> ToggleQuery<'a> {
         self.parts.feature(place)
     }
 
-    /// Whether a feature's project is seen.
+    /// Whether a feature is visible.
     pub(crate) fn sees(&self, feature: &CompiledFeature) -> bool
         ensures { result ≡ sees self.now.projects feature.now.project }
     {
         self.projects.sees(feature.document().project.as_str())
     }
 
-    /// Whether the toggle of an evaluated feature is asked for.
+    /// Whether the query asks for the toggle of a feature with this evaluation.
     pub(crate) fn asks_for(&self, evaluation: &Evaluation) -> bool
         ensures { result ≡ (self.now.all || evaluation.now.on) }
     {

@@ -1,4 +1,4 @@
-//! The part of a version that a set of projects may see.
+//! Lookups of features by name, among all features of a version or only those of some projects.
 ghost use Rattle.std.specs.Prelude.{◌≡◌, ◌≤◌, IfOk, length, map, option_and_then, option_map, slice_get, take};
 ghost use Rattle.std.specs.Cmp.Lexicographic.{slice_cmp};
 ghost use Rattle.std.specs.List.{prefix_len};
@@ -23,7 +23,8 @@ use unl_documents::{Chunk, Feature, List, Memory, Shared, checked_sum, item_coun
 use unl_strategies::Moment;
 use unl_tokens::Projects;
 
-/// The features whose project is seen, and all segments. In contracts the value is the state that they form.
+/// The visible part of a version: the features whose project is in `projects`, and all segments. In contracts the value
+/// is the state that they form.
 #[derive(Drop)]
 pub(crate) struct Seen<'a> {
     parts: &'a Parts,
@@ -87,7 +88,7 @@ impl<'a> Features for Seen<'a> {
     }
 }
 
-/// Finds a feature by its name, if its project is seen. The features are in ascending order of their names.
+/// Finds a feature by its name, if its project is in `projects`. The features are in ascending order of their names.
 pub(crate) fn seen_named<'a>(
     parts: &'a Parts,
     projects: &Projects,
@@ -101,7 +102,7 @@ pub(crate) fn seen_named<'a>(
     if_seen(projects, found)
 }
 
-/// The document of a lookup's result.
+/// The document of the found feature, if one was found.
 pub(crate) fn document_of(found: Option<&CompiledFeature>) -> Option<&Feature>
     ensures { option_map (λ f. f.now) result ≡ option_map (λ f. f.now) found.entry }
 {
@@ -111,7 +112,7 @@ pub(crate) fn document_of(found: Option<&CompiledFeature>) -> Option<&Feature>
     }
 }
 
-/// The feature, if its project is seen.
+/// The found feature, if its project is in `projects`.
 fn if_seen<'a>(
     projects: &Projects,
     found: Option<&'a CompiledFeature>,
@@ -139,8 +140,8 @@ pub(crate) fn feature_named<'a>(parts: &'a Parts, name: &str) -> Option<&'a Comp
     feature_among(parts.chunks(), name)
 }
 
-/// The position of the feature of a name, or where it would be inserted. The features are in ascending order of their
-/// names. An overflow of the position is reported as out of memory.
+/// The position of the feature with this name, counted from 0, or where it would be inserted. The features are in
+/// ascending order of their names. An overflow of the position is reported as out of memory.
 pub(crate) fn place_named(parts: &Parts, name: &str) -> Result<usize, Memory>
     requires { AreRising (map name_key parts.now.features) }
     ensures { IfOk result (λ place. place

@@ -44,7 +44,7 @@ impl CompiledSegment {
         })
     }
 
-    /// Whether a context meets all constraints of the segment.
+    /// Whether a context meets all constraints of the segment. `now` is in milliseconds since 1970.
     fn holds(&self, alloc: Global, context: &Context, now: u64) -> Result<bool, Memory>
         ensures { IfOk result (λ b. b ≡ all_hold self.now.constraints context.now now) }
     {
@@ -75,8 +75,8 @@ pub(crate) fn compiled(alloc: Global, constraints: &[Constraint]) -> Result<List
     Ok(all)
 }
 
-/// Whether each id names one of the segments, and the context meets that segment. The segments are in ascending order of
-/// their ids. `now` is in milliseconds since 1970.
+/// Whether each id names one of the segments, and the context meets that segment. The segments are in ascending order
+/// of their ids. `now` is in milliseconds since 1970.
 pub(crate) fn all_met(
     alloc: Global,
     ids: &[u64],

@@ -1,4 +1,4 @@
-//! A version of an environment, prepared for evaluation.
+//! The snapshot of a version: an environment's state, compiled for evaluation.
 ghost use Rattle.std.specs.Prelude.{◌≡◌, false, Some, IfOk, IfSome, IsSome, option_map};
 ghost use Rattle.serde_json.specs.View.{view};
 ghost use Rattle.serde_json.specs.Written.{compact_text, has_float};
@@ -30,8 +30,8 @@ use unl_documents::{Feature, List, Memory, Shared};
 use unl_strategies::Moment;
 use unl_tokens::Projects;
 
-/// A version of an environment with its constraints compiled, and the positions of each project's features. In contracts
-/// the value is the version, which is valid.
+/// A version of an environment, with its constraints compiled and an index from each project to the positions of its
+/// features. In contracts the value is the version, which is valid.
 #[derive(Drop)]
 pub struct Snapshot {
     version: Shared<EnvVersion>,
@@ -53,7 +53,10 @@ impl Model for Snapshot {
 }
 
 impl Snapshot {
-    /// Builds the snapshot of a version.
+    /// Builds the snapshot of a version. Compiles all features and segments.
+    ///
+    /// # Errors
+    /// `Memory`: out of memory.
     pub fn build(alloc: Global, version: EnvVersion) -> Result<Snapshot, Memory>
         requires { IsValidVersion version }
         ensures { IfOk result (λ s. s ≡ version) }
@@ -63,8 +66,15 @@ impl Snapshot {
         Snapshot::of_parts(alloc, version, parts, projects)
     }
 
-    /// The snapshot of the version after `batch`, which applies at `place`, whose version is this snapshot's. Without a
-    /// hydration, compiled features and segments that no event of the batch names are shared with this snapshot.
+    /// The snapshot of the next version: the version of this snapshot after `batch`. `place` is the environment's
+    /// place: its current version, which is the version of this snapshot, and whether only a hydration can apply. The
+    /// batch applies to the place (`Verdict::Apply`).
+    ///
+    /// Compiled features and segments that no event of the batch names are shared with this snapshot. If the batch has
+    /// a hydration (a whole new state), nothing is shared.
+    ///
+    /// # Errors
+    /// `Memory`: out of memory.
     pub fn next(&self, alloc: Global, place: &Place, batch: &Batch) -> Result<Snapshot, Memory>
         requires place { place.now.version ≡ Some self.now }
         requires batch { IsValidBatch batch.now }
@@ -87,14 +97,17 @@ impl Snapshot {
         self.version.get()
     }
 
-    /// Another handle of the shared version.
+    /// Returns another handle of the version. The version itself is shared, not copied.
+    ///
+    /// # Errors
+    /// `Memory`: out of memory.
     pub fn shared(&self, _alloc: Global) -> Result<Shared<EnvVersion>, Memory>
         ensures { IfOk result (λ v. v ≡ self.now) }
     {
         self.version.copy()
     }
 
-    /// Finds a feature by its name, among the features whose project is seen. Doesn't allocate.
+    /// Finds a feature by its name. `None` if there is none, or its project is not in `projects`. Doesn't allocate.
     pub fn feature(&self, name: &str, projects: &Projects) -> Option<&Feature>
         ensures found { option_map (λ f. f.now) result
             ≡ feature_named name.now (view_of (sees projects.now) self.now.state).features }
@@ -103,8 +116,11 @@ impl Snapshot {
         document_of(seen_named(&self.parts, projects, name))
     }
 
-    /// Evaluates the feature of a name, among the features whose project is seen. Returns `None` exactly if there is no such
-    /// feature.
+    /// Evaluates the feature with this name. Only features whose project is in `projects` are visible, also as parents.
+    /// Returns `None` exactly if no visible feature has the name.
+    ///
+    /// # Errors
+    /// `Memory`: out of memory.
     pub fn evaluate(
         &self,
         alloc: Global,
@@ -120,8 +136,11 @@ impl Snapshot {
         evaluate(alloc, &seen, name, context, moment)
     }
 
-    /// The body of the frontend endpoints: the toggles of the features whose project is seen, in the order of their names.
-    /// With `all` it has all of them, otherwise those that are on.
+    /// The body of the frontend endpoints, as a JSON value: the toggles of the features whose project is in `projects`,
+    /// in the order of their names. If `all`, it has all of these toggles, otherwise only those that are on.
+    ///
+    /// # Errors
+    /// `Memory`: out of memory.
     pub fn toggles(
         &self,
         alloc: Global,
@@ -137,7 +156,10 @@ impl Snapshot {
         toggles_of(alloc, &self.query(projects, all, context, moment))
     }
 
-    /// The body that `toggles` returns, as the text that is sent. Fails only if it runs out of memory.
+    /// The same body as `toggles`, as compact JSON text.
+    ///
+    /// # Errors
+    /// `Memory`: out of memory.
     pub fn toggles_text(
         &self,
         alloc: Global,
@@ -152,16 +174,16 @@ impl Snapshot {
         toggles_text(alloc, &self.query(projects, all, context, moment))
     }
 
-    /// The positions of a project's features in the version's state, in ascending order. Empty if no feature has the project.
-    /// Doesn't allocate.
+    /// The positions of a project's features in the version's state, counted from 0, in ascending order. Empty if the
+    /// project has no feature. Doesn't allocate.
     pub fn of_project(&self, project: &str) -> &[usize]
         ensures { result.now ≡ places_in project.now self.now.state.features }
     {
         places_of(self.projects.get().as_slice(), project)
     }
 
-    /// The compiled constraints of strategy number `strategy` of feature number `feature` of the version's state, in order.
-    /// Both count from 0. Doesn't allocate.
+    /// The compiled constraints of strategy number `strategy` of feature number `feature` of the version's state, in
+    /// order. Both count from 0. Doesn't allocate.
     pub fn constraints(&self, feature: usize, strategy: usize) -> &List<Compiled>
         requires { IsSome (strategy_at self.now.state feature strategy) }
         ensures { option_map (λ s. s.constraints) (strategy_at self.now.state feature strategy) ≡ Some result.now }
@@ -213,7 +235,7 @@ impl Snapshot {
     }
 }
 
-/// The version after a batch that applies at the place.
+/// The version of a place after a batch that applies to it.
 fn next_of(
     alloc: Global,
     version: &EnvVersion,

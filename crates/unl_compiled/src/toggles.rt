@@ -11,7 +11,7 @@ use unl_dependencies::{Evaluation, VariantAnswer};
 use unl_documents::to_value::{put, put_some, put_value};
 use unl_documents::{Feature, Field, Memory};
 
-/// The body for a query.
+/// The body for a query. Fails only if out of memory.
 #[tactic(auto, unfolding(crate::specs::Toggles::toggles_data))]
 pub(crate) fn toggles_of(alloc: Global, query: &ToggleQuery) -> Result<Value, Memory>
     ensures { IfOk result (λ v. view v ≡ body_for query.now) }

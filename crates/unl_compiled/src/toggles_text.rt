@@ -1,7 +1,7 @@
 //! The body of the frontend endpoints, written directly as text.
 //!
-//! Each function that writes appends to the writer. It fails only if it runs out of memory, and may then have written a
-//! part.
+//! Each function that writes appends to the writer. It fails only if out of memory, and may then have written part of
+//! its text.
 ghost use Rattle.std.specs.Prelude.{◌≡◌, IfOk, OnOk};
 ghost use Rattle.serde_json.specs.Written.{compact_text};
 ghost use Rattle.unl_compiled.specs.Toggles.{body_for, toggle_data, variant_data};
@@ -18,7 +18,7 @@ use unl_documents::{Feature, Field, List, Memory};
 /// The initial capacity of the buffer, in bytes.
 const ROOM: usize = 128;
 
-/// The body for a query, as text. Fails only if it runs out of memory.
+/// The body for a query, as compact JSON text. Fails only if out of memory.
 pub(crate) fn toggles_text(alloc: Global, query: &ToggleQuery) -> Result<List<u8>, Memory>
     ensures { IfOk result (λ text. text ≡ compact_text (body_for query.now)) }
 {
