@@ -1,4 +1,5 @@
--- The notes of the answered requests of a connection, and what they say.
+-- The notes of the requests that were answered on a connection. There is one note for each: its draw (a time and a random word), and
+-- its front (the number of publications that led to the board from which it was answered).
 use Rattle.std.specs.Prelude.{◌≡◌, ℕ, ◌≤◌, ◌⊎◌, List, [], ◌∷◌, ◌++◌, map, Option, Some}
 use Rattle.unl_base.specs.declared.draws.Draw.{Draw}
 use Rattle.unl_base.specs.Draws.{TakesDraw, TakesAtMostOne}
@@ -23,9 +24,10 @@ pub record Noted : Type 0 where
 abbrev pub noted : List ServedOne → Book → Noted
 noted ones book = record { ones = ones; book = book }
 
--- One more answer is noted: it is computed from the board at the front of its note, with the draw of its note. The reply is
--- that of the answer, or says that the book is full. The book has what the answer reports, unless it is full. If each slot of
--- that board holds a version from the line of histories of its environment, what a token sees of it is one revision of that line.
+-- One more note, `one`, is appended for an answer. The answer is computed from the board at the note's front, with the note's draw.
+-- The reply is that of the answer, or says that the metrics book is full. The answer's report is added to the book, unless the book
+-- is full. If each slot of the board holds a version that represents the histories of its environment, each token sees one revision
+-- of these histories.
 pub record Notes
     (board_at : ℕ → Option Board) (before : Noted) (request : Request) (reply : Reply) (after : Noted) : Type 0 where
   pub one : ServedOne
@@ -40,7 +42,7 @@ pub record Notes
 abbrev pub NotesNothing : Noted → Request → Noted → Type 0
 NotesNothing before request after = after ≡ before
 
--- the fronts never fall, from the first one to the last
+-- the fronts of the notes never decrease, start at `first` or above, and end at `last` or below
 abbrev pub FrontsRise : ℕ → List ServedOne → ℕ → Type 0
 FrontsRise first [] last = first ≤ last
 FrontsRise first (one ∷ ones) last = (first ≤ one.front) × FrontsRise one.front ones last
@@ -55,13 +57,13 @@ LooksFor fronts ones end fronts_after =
     Enters fronts (fronts_of ones) fronts_after
     ⊎ ((end ≡ Memory) × (front : ℕ) × Enters fronts (fronts_of ones ++ front ∷ []) fronts_after)
 
--- the draws of the notes were taken, in this order and no others between them
+-- the draws of the notes were taken in the order of the notes, and no other draws were taken
 abbrev pub TakesDraws : Option (List Draw × Draw) → List ServedOne → Option (List Draw × Draw) → Type 0
 TakesDraws coming [] after = after ≡ coming
 TakesDraws coming (one ∷ ones) after =
     (middle : Option (List Draw × Draw)) × TakesDraw coming one.draw middle × TakesDraws middle ones after
 
--- as above, and at most one more draw was taken
+-- the draws of the notes were taken in order, and then at most one more draw
 abbrev pub DrawsAtLeast : Option (List Draw × Draw) → List ServedOne → Option (List Draw × Draw) → Type 0
 DrawsAtLeast coming ones after = (middle : Option (List Draw × Draw)) × TakesDraws coming ones middle × TakesAtMostOne middle after
 
@@ -71,7 +73,7 @@ pub record KnownDesk : Type 0 where
   pub board_at : ℕ → Option Board
   pub fronts : Option (List ℕ)
 
--- these facts about a desk, by the functions that state them
+-- what is known of a desk, from the ghost functions `front`, `board_at` and `fronts` of its `Desk` implementation
 abbrev pub known_by : {D : Type 0} → (D → ℕ) → (D → ℕ → Option Board) → (D → Option (List ℕ)) → D → KnownDesk
 known_by front board_at fronts desk = record { front = front desk; board_at = board_at desk; fronts = fronts desk }
 

@@ -1,4 +1,4 @@
-//! The request handler that asks a desk.
+//! The request handler of a connection: a desk answers each request.
 
 use crate::served::{Served, ServedOne};
 use std::alloc::Global;
@@ -13,12 +13,16 @@ use unl_server::RequestHandler;
 /// The state of the handler: the desk that answers requests, the metrics book, and the notes of the answers.
 #[derive(Drop)]
 pub(crate) struct DeskHandler<'a, D> {
+    /// Answers the requests.
     pub desk: &'a mut D,
+    /// Receives the reports of the answers.
     pub book: &'a mut MetricsBook,
+    /// Receives one note for each answer.
     pub served: &'a mut Served,
 }
 
-/// Answers each request from a desk, adds what it reports to the book, and notes the desk's front and the draw.
+/// Lets a desk answer each request, adds the answer's report to the metrics book, and notes the draw and the answer's
+/// front: the number of publications that led to the board the request was answered from.
 pub(crate) struct ByDesk<'a, D>(PhantomData<&'a D>);
 
 impl<'a, D: Desk> RequestHandler for ByDesk<'a, D> {

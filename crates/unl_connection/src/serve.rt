@@ -1,4 +1,4 @@
-//! Serves a whole connection.
+//! Serves one connection from its first request to its end.
 ghost use Rattle.std.specs.Prelude.{◌≡◌, [], length};
 ghost use Rattle.unl_core.specs.Desk.{Keeps};
 ghost use Rattle.unl_server.specs.Conversation.{Converses};
@@ -14,9 +14,10 @@ use unl_http_api::End;
 use unl_metrics::MetricsBook;
 use unl_server::serve_requests;
 
-/// Serves a connection until it ends. The desk answers each request, which is noted and gets its reply, and what it reports
-/// is added to the book. A report for which the book has no room gets a 503 and changes nothing. Returns why the connection
-/// ended.
+/// Serves a connection until it ends. The desk answers each request, and the reply of the answer is sent. The front
+/// (the number of publications that led to the board of the answer) and the draw (a time and a random word) are noted
+/// in `served`. The metrics that the request reports are added to the book. If the book has no room for them, the reply
+/// is a 503 and the book is unchanged. Returns why the connection ended.
 pub fn serve_connection<D: Desk, L: Link, R: Draws>(
     alloc: Global,
     desk: &mut D,
@@ -27,22 +28,24 @@ pub fn serve_connection<D: Desk, L: Link, R: Draws>(
 ) -> End
     requires { served.old ≡ [] }
 
-    // The conversation of a handler whose steps are the notes: its session, its replies, its end, and the cause of each
-    // fault. In every case, the book has what the noted requests report, in order, unless it was full. If each slot of a board
-    // that was answered from holds a version from the line of histories of its environment, what a token sees of it is one
-    // revision of that line.
+    // Each answered request appends one note to `served`, and its reply is sent. The book has the reports of the noted
+    // requests, in order, except those for which it was full. Suppose that each environment has a line (a list of
+    // histories, one per epoch), and that each slot of the board of an answer holds a version from the line of its
+    // environment. Then what a token sees of that board is one revision of that line.
     ensures converses { Converses (Notes (D.board_at desk.new)) NotesNothing
         (link_view (L.left link.old) (L.sent link.old) (L.Source.faults link.old))
         (noted served.old book.old) result (noted served.new book.new) (length served.new)
         (link_view (L.left link.new) (L.sent link.new) (L.Source.faults link.new)) }
 
-    // Each note has a front at which the desk looked in this call, and a draw taken in this call.
+    // The desk looked at the published board once for each note, at the front of the note, and at most once more if
+    // memory ran out. The fronts never fall. The draws of the notes were taken in order, and at most one more after
+    // them. The desk still knows each board that it knew before.
     ensures fronts { FrontsRise (D.front desk.old) served.new (D.front desk.new) }
     ensures looks { LooksFor (D.fronts desk.old) served.new result (D.fronts desk.new) }
     ensures drawn { DrawsAtLeast (R.coming draws.old) served.new (R.coming draws.new) }
     ensures keeps { Keeps (D.board_at desk.old) (D.board_at desk.new) }
 
-    // Whatever the desk's answers preserve is preserved.
+    // The desk's own relation `continues` holds from its first state to its last.
     ensures continues { D.continues desk.old desk.new }
 {
     let mut handler = DeskHandler { desk, book, served };

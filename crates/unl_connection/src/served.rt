@@ -1,4 +1,5 @@
-//! The requests answered on a connection.
+//! A list with one note for each request that was answered on a connection. Contracts use the notes to state which
+//! data each request was answered from.
 ghost use Rattle.std.specs.Prelude.{◌≡◌, ◌<◌, ◌++◌, ◌∷◌, [], length, IfOk, option_copied, slice_get};
 
 use std::alloc::Global;
@@ -7,12 +8,13 @@ use unl_base::Draw;
 use unl_documents::Memory;
 use unl_server::MOST_REQUESTS;
 
-/// The front and the draw of an answered request.
+/// The note of one answered request.
 #[derive(Clone, Copy, Debug, PartialEq, Eq)]
 pub struct ServedOne {
-    /// The number of publications that led to the board the request was answered from.
+    /// Identifies the board (the published data of all environments) that the request was answered from: the board
+    /// after this number of publications.
     pub front: u64,
-    /// The draw that the request was answered with.
+    /// The draw that the request was answered with: its time and its random word.
     pub draw: Draw,
 }
 
@@ -53,7 +55,7 @@ impl Served {
         self.notes.len()
     }
 
-    /// The note at this index.
+    /// The note at this index, from 0, or `None` if there are fewer notes.
     pub fn get(&self, place: usize) -> Option<&ServedOne>
         ensures { option_copied result ≡ slice_get self.now place }
     {
