@@ -19,7 +19,7 @@ Pair = List ℕ × List ℕ
 abbrev named : Fields → Property → Fields
 named c p = with_property p.name p.value c
 
--- ---- kept apart
+-- ---- the properties with keys `properties[x]` are kept apart
 
 plain_is : (pairs : List Pair) (s : Settings) → (fold with_pair s pairs).plain ≡ fold set_plain s.plain pairs
 plain_is [] s = refl
@@ -44,7 +44,7 @@ unfolding set_by
 set_apart pairs =
     inner_is pairs none_yet (fold with_pair none_yet pairs).plain ∙ ap (λ c. fold set_inner c pairs) (plain_is pairs none_yet)
 
--- ---- no fewer
+-- ---- the number of properties never falls
 
 put_grows : (name value : List ℕ) (ps : List Property) → length ps ≤ length (put name value ps)
 unfolding put

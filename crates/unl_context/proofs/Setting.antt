@@ -1,4 +1,4 @@
--- What the pairs of a query set: each of the six fields by its last pair, and properties sorted by name.
+-- The effect of the pairs of a query: each of the six fields is set by its last pair, and the properties are sorted by name.
 use Rattle.std.proofs.Common.{◌≡◌, ℕ, List, [], ◌∷◌, fold, codes, length, Bool, true, false, Option, Some, None, is_some, ◌||◌, ◌==◌, if◌then◌else◌, refl, sym, ap, subst, ◌∙◌, inl, inr}
 use Rattle.std.specs.Option.{option_or}
 use Rattle.std.specs.Str.{bytes_eq}

@@ -1,4 +1,4 @@
--- The JSON value that bytes spell.
+-- Parsing of JSON bytes into a value.
 use Rattle.std.proofs.Common.{◌≡◌, ℕ, List, Some, None, refl, inl, inr}
 use Rattle.std.specs.Prelude.{IsUtf8}
 use Rattle.std.specs.Str.{is_utf8}

@@ -1,4 +1,4 @@
--- JSON values: the value at a key, and values as strings.
+-- JSON values: parsing, the value at a key, and conversion to strings.
 use Rattle.std.specs.Prelude.{ℕ, List, Bool, Option, Some, None, option_and_then, is_some, Ok, Err, if◌then◌else◌}
 use Rattle.std.specs.Str.{is_utf8}
 use Rattle.serde_json.specs.Data.{Data, null, boolean, number, string, array, object}
@@ -10,7 +10,7 @@ use Rattle.unl_context.specs.declared.fault.Part.{Part}
 use Rattle.unl_context.specs.Limits.{short_text}
 use Rattle.unl_context.specs.Reading.{Reading, ◌>>=◌}
 
--- The value that the bytes spell in JSON (RFC 8259), if they spell one.
+-- The value that is parsed from JSON bytes (RFC 8259), or `None` if they are not UTF-8 or not JSON.
 unfoldable pub json_of : List ℕ → Option Data
 json_of bytes = if is_utf8 bytes then read bytes else None
 

@@ -1,4 +1,5 @@
-//! Laws on what the pairs of a query set. Each is the contract of an empty function.
+//! Laws on the fields and properties that the pairs of a query set. Each law is the contract of a function that does
+//! nothing.
 ghost use Rattle.unl_context.specs.Laws.{LastFieldCounts, LastPropertyCounts, SetNamesRise};
 
 /// A field has the value of the last pair whose key is the field's name.
@@ -6,8 +7,8 @@ pub fn last_field_counts()
     ensures { LastFieldCounts }
 {}
 
-/// A property x has the value of the last pair with the key `properties[x]`, or if there is none, of the last pair with the
-/// key x.
+/// A property x has the value of the last pair with the key `properties[x]`, or if there is none, of the last pair with
+/// the key x.
 pub fn last_property_counts()
     ensures { LastPropertyCounts }
 {}

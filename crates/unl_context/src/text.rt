@@ -4,7 +4,7 @@ ghost use Rattle.std.specs.Prelude.{◌≡◌, List, ℕ, string_bytes, IfOk};
 use std::alloc::{AllocError, Global};
 use std::marker::Model;
 
-/// An owned string. Contracts see it as its bytes.
+/// An owned string. In contracts it is the list of its bytes.
 #[derive(Debug, Drop)]
 pub(crate) struct Text {
     string: String,

@@ -1,4 +1,4 @@
-//! JSON values (RFC 8259): the value at a key, and values as strings.
+//! JSON values (RFC 8259): parsing, the value at a key, and conversion to strings.
 ghost use Rattle.std.specs.Prelude.{◌≡◌, IfOk, IfNone, option_map};
 ghost use Rattle.serde_json.specs.Data.{number};
 ghost use Rattle.serde_json.specs.View.{number_view, view};
@@ -58,8 +58,8 @@ pub(crate) fn text_of(alloc: Global, part: Part, value: Value) -> Result<Text, B
     }
 }
 
-/// Returns the value of a part of a context as a string. The value is a string, or an integer or boolean, which becomes its
-/// JSON text.
+/// Converts the value of a part of a context to a string: a string itself, or the JSON text of an integer or boolean.
+/// Any other value is `WrongKind` with the part. A string of more than 4,096 bytes is `TooLarge`.
 #[tactic(auto, unfolding(crate::specs::Values::text_in))]
 pub(crate) fn text_in(alloc: Global, part: Part, value: &Value) -> Result<Text, BadContext>
     ensures { Gives result (text_in part (view value.now)) }
@@ -73,7 +73,7 @@ pub(crate) fn text_in(alloc: Global, part: Part, value: &Value) -> Result<Text, 
     }
 }
 
-/// Returns the integer at a part of a context as a string.
+/// Converts the integer at a part of a context to its decimal text. A number that is not an integer is `WrongKind`.
 #[tactic(auto, unfolding(crate::specs::Values::text_in))]
 fn integer_in(alloc: Global, part: Part, value: &Number) -> Result<Text, BadContext>
     ensures { Gives result (text_in part (number (number_view value.now))) }
