@@ -1,4 +1,4 @@
--- The context of a request, or the first fault.
+-- The context of a request: read from the body of a POST, otherwise from the query.
 use Rattle.std.proofs.Common.{◌≡◌, ◌≢◌, ◌∙◌, Bool, true, false, cond, Ok, Err, subst, sym}
 use Rattle.std.specs.Prelude.{IfErr, IfOk}
 use Rattle.unl_context.specs.Context.{Fields}
@@ -11,7 +11,7 @@ use Rattle.unl_http_api.specs.Route.{is_post, query_of}
 use Rattle.unl_http_api.specs.declared.request.Request.{Request}
 use Rattle.unl_core.specs.Answer.{asked_context}
 
--- The clauses of a call that reads a context are one, also where the reading is written in another way.
+-- The success and error clauses of a call that reads a context together say that the call gives the expected reading.
 pub context_given : (result reading asked : Reading Fields) → reading ≡ asked → IfOk result (Reads reading)
     → IfErr result (λ e. e ≢ Memory → HasFault reading e) → Gives Memory result asked
 context_given (Ok context) reading asked same reads fault = sym same ∙ reads

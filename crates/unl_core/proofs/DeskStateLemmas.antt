@@ -31,7 +31,7 @@ versions_at (slot ∷ slots) = ap (λ vs. slot.snapshot ∷ vs) (versions_at slo
 abbrev state_of_desk : Board → List Place → ℕ → DeskState
 state_of_desk board places front = record { board = board; places = places; front = front }
 
--- The initial places of a board's slots.
+-- The initial places of a board's slots agree with the slots.
 pub places_match_begun : (board : Board) (places : List Place) → AreSlots board.slots → places ≡ map place_at board.slots → All IsValidPlace places → PlacesMatch board places
 places_match_begun board places slots made valid = record { slots = slots; versions = ap versions made ∙ versions_at board.slots; valid = valid }
 
@@ -40,7 +40,7 @@ snapshots_taking slot version [] = refl
 snapshots_taking zero version (x ∷ xs) = refl
 snapshots_taking (suc slot) version (x ∷ xs) = ap (λ vs. x.snapshot ∷ vs) (snapshots_taking slot version xs)
 
--- A version is put at a slot and at its place.
+-- If a version is put at a slot and at its place, places and slots still agree.
 pub places_match_taking : (board : Board) (places : List Place) (slot : ℕ) (version : EnvVersion) (place : Place) → PlacesMatch board places → place.version ≡ Some version → IsValidVersion version
     → PlacesMatch (with_snapshot slot version board) (set places slot place)
 places_match_taking board places slot version place matched there valid =
@@ -68,7 +68,7 @@ place_version board places slot p matched low is =
     ∙ ap (λ (o : Option (Option EnvVersion)). unwrap_or o None) (slice_get-map (λ s. s.snapshot) board.slots slot)
     ∙ joined (λ (s : Slot). s.snapshot) (slice_get board.slots slot)
 
--- A place is held or released, and keeps its version.
+-- If a place is held or released and keeps its version, places and slots still agree.
 pub places_match_held : (board : Board) (places : List Place) (slot : ℕ) (place : Place) (d : Place) → PlacesMatch board places → slot < length places
     → place.version ≡ (get_or places slot d).version → PlacesMatch board (set places slot place)
 places_match_held board places slot place d matched low same =
@@ -80,7 +80,7 @@ places_match_held board places slot place d matched low same =
       valid = All-set IsValidPlace places slot place sound matched.valid;
     }
 
--- A slot is added for a new name, with an empty place.
+-- If a slot and an empty place are added for a new environment, places and slots still agree.
 pub places_match_more : (board grown : Board) (places : List Place) (environment : List ℕ) (slot : Slot) → PlacesMatch board places → length board.slots < 8
     → None ≡ place_in environment board.slots → slot ≡ empty_slot environment → grown.slots ≡ board.slots ++ slot ∷ []
     → PlacesMatch grown (places ++ empty_place ∷ [])
@@ -95,19 +95,19 @@ places_match_more board grown places environment slot matched room none made pus
   valid = All-append IsValidPlace places (empty_place ∷ []) matched.valid (All-cons IsValidPlace empty_place [] tt (All-nil IsValidPlace));
 }
 
--- The place at an index.
+-- `place_of` of a desk is the place at that index.
 place_is : (board : Board) (places : List Place) (front slot : ℕ) (p : Place) → slot < length places → p ≡ get_or places slot p
     → place_of (installed_by (record { board = board; places = places; front = front })) slot ≡ p
 place_is board places front slot p low is = ap (λ o. unwrap_or o empty_place) (slice_get-get_or places slot p low) ∙ sym is
 
--- A desk after a slot is held.
+-- A desk whose place is held by the code is `with_hold` of the desk.
 pub hold_is : (board : Board) (places : List Place) (front slot : ℕ) (p : Place) (s : DeskState) → record { board = board; places = places; front = front } ≡ s → slot < length places
     → p ≡ get_or places slot p → record { board = board; places = set places slot (record { version = p.version; held = true }); front = front } ≡ with_hold slot s
 hold_is board places front slot p s same low is =
     ap (λ (v : Option EnvVersion). state_of_desk board (set places slot (record { version = v; held = true })) front) (ap (λ (q : Place). q.version) (sym (place_is board places front slot p low is)))
     ∙ ap (with_hold slot) same
 
--- A desk after a batch.
+-- A desk on which the code installs a batch is `with_batch` of the desk.
 pub install_is : (board new : Board) (places : List Place) (front slot : ℕ) (batch : Batch) (p : Place) (v kept shared : EnvVersion) (s : DeskState)
     → record { board = board; places = places; front = front } ≡ s → slot < length places → p ≡ get_or places slot p
     → v ≡ next_version p batch → shared ≡ v → kept ≡ v → new ≡ with_snapshot slot shared board
@@ -122,7 +122,7 @@ install_is board new places front slot batch p v kept shared s same low is next 
     (set places slot (record { version = Some w; held = false })) (front + 1)) (kept_is ∙ made)
     ∙ ap (with_batch slot batch) same
 
--- It still agrees with its board.
+-- After a batch is installed, places and slots still agree.
 pub places_match_install : (board new : Board) (places : List Place) (slot : ℕ) (v kept shared : EnvVersion) → PlacesMatch board places → new ≡ with_snapshot slot shared board
     → shared ≡ v → kept ≡ v → IsValidVersion v → PlacesMatch new (set places slot (record { version = Some kept; held = false }))
 places_match_install board new places slot v kept shared before changed shared_is kept_is valid =

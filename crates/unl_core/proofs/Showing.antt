@@ -1,4 +1,4 @@
--- What a token sees of a board whose slots are revisions of lines of histories.
+-- If the versions of a board are revisions of lines of histories, a token sees one revision and is sent events of its line.
 use Rattle.std.proofs.Common.{◌≡◌, ℕ, Bool, true, false, cond, List, [], ◌∷◌, Option, Some, None, Result, Ok, Err, refl, subst}
 use Rattle.std.specs.Prelude.{IfSome, option_and_then, find}
 use Rattle.unl_delta.specs.declared.batch.Batch.{Batch}
@@ -50,7 +50,7 @@ ready_is : (histories : Histories) (board : Board) (q : Request) (kind : Kind) (
 ready_is histories board q kind ready all is =
     version_represents histories ready.token.environment board.slots ready.version all (ready_version board (shown_by board q kind) ready is)
 
--- It is one revision.
+-- The state that a token sees is one revision of its environment's line.
 pub shows_revision : (histories : Histories) (board : Board) (q : Request) (kind : Kind) (ready : Ready) → AllRepresented histories board.slots → ready_by board q kind ≡ Ok ready
     → ShowsRevision histories ready
 shows_revision histories board q kind ready all is =

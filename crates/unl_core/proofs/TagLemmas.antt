@@ -27,7 +27,7 @@ use Rattle.unl_core.specs.Tag.{number_of_tag, if_spelled, tag_prefix, tag_text, 
 abbrev tag : Board → ℕ → ℕ → ℕ → List ℕ
 tag board place epoch n = tag_text board place (record { epoch = epoch; number = n })
 
--- ---- a tag that a number is read from is the tag of that number
+-- ---- if a number is read from a tag, the tag is the tag of that number
 
 some_same : (m n : ℕ) → ◌≡◌ {A = Option ℕ} (Some m) (Some n) → m ≡ n
 some_same m n h = cc

@@ -1,4 +1,4 @@
--- What a request says about its client.
+-- Whether the client of a request knows segments, by the version of the client specification that the request names.
 use Rattle.std.specs.Prelude.{ℕ, List, [], Bool, false, Option, Some, None, option_and_then}
 use Rattle.std.specs.Ordering.{is_lt}
 use Rattle.semver.specs.Parse.{Parts}
@@ -10,11 +10,11 @@ use Rattle.unl_http_api.specs.Route.{if_utf8}
 abbrev pub first_with_segments : Parts
 first_with_segments = (4, 2, 0, [], [])
 
--- The version that bytes are the text of, if they are the text of a full version.
+-- The version whose text the bytes are. `None` if they are not the text of a full version of Semantic Versioning 2.0.0.
 abbrev pub version_in : List ℕ → Option Parts
 version_in bytes = option_and_then version_of (if_utf8 bytes)
 
--- There is a version, and it comes before the first one with segments.
+-- There is a version, and its precedence is below 4.2.0.
 abbrev pub is_before_segments : Option Parts → Bool
 is_before_segments None = false
 is_before_segments (Some version) = is_lt (precedence version first_with_segments)

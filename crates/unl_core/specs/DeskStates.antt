@@ -1,4 +1,6 @@
--- The state of a desk: a board, the places of its slots, and the number of publications.
+-- The state of a single-threaded desk: a board, the place of each slot, and the number of publications. A place has the slot's
+-- version and whether the slot is held: a held slot missed a batch of events, and takes only a batch that begins with a hydration
+-- (an event that contains the whole state).
 use Rattle.std.specs.Prelude.{◌≡◌, ℕ, ◌+◌, List, [], ◌∷◌, ◌++◌, length, map, All, Bool, ◌&&◌, ◌||◌, not, nat_lt, if◌then◌else◌, is_some}
 use Rattle.std.specs.Prelude.{slice_get, slice_set, Option, option_and_then, Some, true, false}
 use Rattle.unl_tokens.specs.declared.token.Token.{Token}
@@ -12,19 +14,19 @@ use Rattle.unl_core.specs.declared.board.Board.{Board}
 use Rattle.unl_core.specs.declared.board.Slot.{Slot}
 use Rattle.unl_core.specs.Board.{AreSlots, place_in, empty_slot, with_snapshot, with_tokens}
 
--- The board, the place of each of its slots, and how many changes were published.
+-- The board, the place of each of its slots, and the number of changes published so far.
 pub record DeskState : Type 0 where
   pub board : Board
   pub places : List Place
   pub front : ℕ
 
--- The place of each slot has the slot's version.
+-- The slots and the places are valid, and the place of each slot has the slot's version.
 pub record PlacesMatch (board : Board) (places : List Place) : Type 0 where
   pub slots : AreSlots board.slots
   pub versions : map (λ place. place.version) places ≡ map (λ slot. slot.snapshot) board.slots
   pub valid : All IsValidPlace places
 
--- The place of a slot that isn't held.
+-- The place with a slot's version, not held.
 abbrev pub place_at : Slot → Place
 place_at slot = record { version = slot.snapshot; held = false }
 
@@ -32,15 +34,15 @@ place_at slot = record { version = slot.snapshot; held = false }
 abbrev pub snapshot_at : List Slot → ℕ → Option EnvVersion
 snapshot_at slots slot = option_and_then (λ s. s.snapshot) (slice_get slots slot)
 
--- The desk as an installer.
+-- The part of a desk that the `Installer` trait knows: places, number of publications and token book.
 abbrev pub installed_by : DeskState → Installed
 installed_by s = record { places = s.places; front = s.front; book = s.board.book }
 
--- The environment is new and there is room for it, among eight slots.
+-- The environment is new, and the board has fewer than eight slots.
 abbrev pub is_added : List ℕ → List Slot → Bool
 is_added environment slots = not (is_some (place_in environment slots)) && nat_lt (length slots) 8
 
--- The environment has a slot, or there is room for one, among eight.
+-- The environment has a slot, or the board has fewer than eight slots.
 abbrev pub has_room : List ℕ → List Slot → Bool
 has_room environment slots = is_some (place_in environment slots) || nat_lt (length slots) 8
 
@@ -52,7 +54,7 @@ with_slot environment s = record {
   front = s.front;
 }
 
--- The desk after an environment is named: it has a slot if there was room.
+-- The desk after `name_slot`: a new environment gets a slot if there is room.
 abbrev pub with_name : List ℕ → DeskState → DeskState
 with_name environment s = if is_added environment s.board.slots then with_slot environment s else s
 
@@ -68,11 +70,11 @@ with_version slot version s = record {
   front = s.front + 1;
 }
 
--- The desk after a batch that applies is published at a slot.
+-- The desk after a batch is applied to a slot and the new version is published.
 abbrev pub with_batch : ℕ → Batch → DeskState → DeskState
 with_batch slot batch s = with_version slot (next_version (place_of (installed_by s) slot) batch) s
 
--- The desk after a slot is held.
+-- The desk after a slot is held. Its version stays.
 abbrev pub with_hold : ℕ → DeskState → DeskState
 with_hold slot s = with_place slot (record { version = (place_of (installed_by s) slot).version; held = true }) s
 

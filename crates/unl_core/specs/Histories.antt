@@ -1,4 +1,5 @@
--- Boards whose slots are revisions of lines of histories.
+-- Boards whose versions come from the histories of their environments. A line of histories has, for each epoch of an
+-- environment, the list of its events. A revision of a line is the state after the events of one epoch up to some number.
 use Rattle.std.specs.Prelude.{◌≡◌, ℕ, List, Some, Ok, option_map, Option, IfSome}
 use Rattle.std.specs.List.{AllByRecursion}
 use Rattle.unl_delta.specs.declared.version.EnvVersion.{EnvVersion}
@@ -13,34 +14,34 @@ use Rattle.unl_core.specs.declared.board.Slot.{Slot}
 use Rattle.unl_core.specs.Answer.{seen}
 use Rattle.unl_core.specs.Shown.{Ready, ready_by}
 
--- The line of histories of each environment, and the projects that are visible in it.
+-- The line of histories of each environment, and the projects that are visible in the board's copy of it.
 pub record Histories : Type 0 where
   pub line : List ℕ → List Era
   pub sees : List ℕ → Sees
 
--- Each of them is a line.
+-- The line of each environment is valid: epochs ascend, and the event numbers of each epoch never decrease.
 abbrev pub AreLines : Histories → Type 0
 AreLines histories = (environment : List ℕ) → IsLine (histories.line environment)
 
--- The version of an environment, if there is one, is a revision of its line, filtered by the projects that are seen.
+-- The version of an environment, if there is one, is a revision of its line, with only the visible projects.
 abbrev pub RepresentedAt : Histories → List ℕ → Option EnvVersion → Type 0
 RepresentedAt histories environment version = IfSome version (RepresentsLine (histories.line environment) (histories.sees environment))
 
--- This holds for each slot.
+-- The version of each slot is such a revision.
 abbrev pub AllRepresented : Histories → List Slot → Type 0
 AllRepresented histories slots = AllByRecursion (λ slot. RepresentedAt histories slot.environment slot.snapshot) slots
 
--- The projects that both the environment's copy and the token see.
+-- The projects that are visible both in the board's copy of the token's environment and to the token.
 abbrev pub both_see : Histories → Ready → Sees
 both_see histories ready = both (histories.sees ready.token.environment) (sees ready.token.projects)
 
--- What a token sees is one revision of its environment's line, filtered by the projects that both see.
+-- The state that a token sees is one revision of its environment's line, with only the projects of `both_see`.
 abbrev pub ShowsRevision : Histories → Ready → Type 0
 ShowsRevision histories ready =
     option_map (view_of (both_see histories ready)) (revision_in (histories.line ready.token.environment) (revision_of ready.version))
     ≡ Some (seen ready)
 
--- This holds for each request to the board.
+-- The token of each accepted request to the board sees one revision.
 abbrev pub ShowsRevisions : Histories → Board → Type 0
 ShowsRevisions histories board =
     (q : Request) (kind : Kind) (ready : Ready) → ready_by board q kind ≡ Ok ready → ShowsRevision histories ready

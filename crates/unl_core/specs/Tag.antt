@@ -1,6 +1,7 @@
--- The tag of an answer, in double quotes: the board's boot number, its generation, the token's position in the book, the
--- epoch and a point unless the epoch is 0, the number of the content, and the letter i for a feed whose segments are
--- inlined. Chosen by this project.
+-- The tag of an answer (its `ETag`): `"<boot>-<generation>-<place>-<epoch>.<number>i"` with its double quotes. This project
+-- chose the format. `boot` and `generation` are fields of the board, the state that requests are answered over. `place` is the
+-- position of the request's token in the board's list of tokens (its book). `epoch` and `number` are the revision of the content.
+-- The epoch and the point are absent if the epoch is 0. The `i` is only in the tag of a feed whose segments are inlined.
 use Rattle.std.specs.Prelude.{ℕ, ◌-◌, ◌+◌, ◌^◌, ◌==◌, List, [], ◌++◌, codes, decimal, length, take, drop, false, Option, Some, None}
 use Rattle.std.specs.Prelude.{option_and_then, if◌then◌else◌}
 use Rattle.std.specs.Fmt.{digits, format_spec, padded_integral}
@@ -36,11 +37,11 @@ tag_text = marked_tag []
 abbrev pub inlined_tag : Board → ℕ → Revision → List ℕ
 inlined_tag = marked_tag (codes "i")
 
--- The digits of a tag whose number comes after `prefix_length` bytes.
+-- The bytes of a tag from `prefix_length` to its last byte, the closing quote, which is excluded.
 abbrev pub number_part : ℕ → List ℕ → List ℕ
 number_part prefix_length tag = take (length tag - (prefix_length + 1)) (drop prefix_length tag)
 
--- The whole number that is written in JSON.
+-- The number, if the bytes are JSON for a whole number below 2 ^ 64.
 abbrev pub whole_in : List ℕ → Option ℕ
 whole_in bytes = option_and_then as_u64 (option_and_then as_number (json_of bytes))
 
@@ -53,6 +54,6 @@ unfoldable pub number_of_tag : Board → ℕ → ℕ → List ℕ → Option ℕ
 number_of_tag board place epoch tag =
     option_and_then (if_spelled board place epoch tag) (whole_in (number_part (length (tag_prefix board place epoch)) tag))
 
--- The number of a request's tag, if it has one.
+-- The number in the tag of a request, if there is a tag and it is the tag of a number.
 abbrev pub since_of : Board → ℕ → ℕ → Option (List ℕ) → Option ℕ
 since_of board place epoch tag = option_and_then (number_of_tag board place epoch) tag

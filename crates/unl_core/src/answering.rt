@@ -1,4 +1,4 @@
-//! Answers a request.
+//! Computes the answer to a request over a board.
 ghost use Rattle.std.specs.Prelude.{◌≡◌, ◌≢◌, ◌∷◌, [], codes, IfOk, IfSome, Err, Ok, Some};
 ghost use Rattle.unl_core.specs.Answer.{answer_of, asked_context, at_route, delta_reply, document_reply, feature_reply, feed_for};
 ghost use Rattle.unl_core.specs.Answer.{feed_reply, feed_state, feed_tag, feed_with, has_tag, listed, news_since, one_text, plain};
@@ -39,9 +39,14 @@ use unl_metrics::{BadReport, Report};
 use unl_strategies::Moment;
 use unl_tokens::{BadRequest, Kind, Projects, Token, answer_text, read_request};
 
-/// Answers a request by the first case that fits: there is no such route, the route doesn't have the method, or the
-/// route's own answer. A token is answered over what it sees of its environment's state: the features of its projects,
-/// and all segments.
+/// Answers a request: with 404 `NoSuchRoute` if no route has its path, with 405 `BadMethod` if the route doesn't accept
+/// its method, otherwise with the route's own answer. `/commands` counts as an unknown path. `draw` has the time and
+/// the random word for an evaluation.
+///
+/// An answer shows a token only the features of its projects, and all segments of its environment.
+///
+/// # Errors
+/// `Memory`: out of memory.
 #[tactic(auto, unfolding(crate::specs::Answer::answer_of))]
 pub fn answer(
     alloc: Global,
@@ -62,7 +67,7 @@ pub fn answer(
     at_route(alloc, board, request, draw, &route)
 }
 
-/// The answer to a request that reports nothing.
+/// The answer with this reply and without a report.
 fn plain(reply: Reply) -> Answer
     ensures { result ≡ plain reply }
 {
@@ -73,7 +78,7 @@ fn plain(reply: Reply) -> Answer
     }
 }
 
-/// The answer of a route that has the request's method.
+/// The answer of a known route. `/commands` is refused like an unknown path.
 fn at_route(
     alloc: Global,
     board: &Board,
@@ -101,7 +106,7 @@ fn at_route(
     }
 }
 
-/// Reads the metrics that an application reports.
+/// Answers a report of metrics from one application.
 fn report(alloc: Global, board: &Board, request: &Request, kind: Kind) -> Result<Answer, Memory>
     ensures answer { IfOk result (λ a. a ≡ reported (shown_by board.now request.now kind) (single_report_of request.now.body)) }
     ensures report { IfOk result (λ a. IfSome a.report IsReport) }
@@ -115,7 +120,7 @@ fn report(alloc: Global, board: &Board, request: &Request, kind: Kind) -> Result
     }
 }
 
-/// Reads the metrics that an edge has summed up.
+/// Answers a bulk report: metrics that an edge has summed up.
 fn bulk_report(alloc: Global, board: &Board, request: &Request) -> Result<Answer, Memory>
     ensures answer { IfOk result (λ a. a ≡ reported (shown_by board.now request.now Kind.Client) (bulk_report_of request.now.body)) }
     ensures report { IfOk result (λ a. IfSome a.report IsReport) }
@@ -129,7 +134,8 @@ fn bulk_report(alloc: Global, board: &Board, request: &Request) -> Result<Answer
     }
 }
 
-/// The answer to a report for a token's environment, or the refusal of a report that can't be read.
+/// The answer to a report: 202 with the report, for the token's environment, or 400 `BadReport` if the report couldn't
+/// be read.
 fn reported_by(
     alloc: Global,
     token: &Token,
@@ -158,7 +164,7 @@ fn healthy(alloc: Global) -> Result<Reply, Memory>
     Ok(with_text(status::OK, text))
 }
 
-/// The known tokens among those that the request lists.
+/// The reply with the known tokens among those that the request lists, or 400 `BadBody`.
 fn validate(alloc: Global, board: &Board, request: &Request) -> Result<Reply, Memory>
     ensures { IfOk result (λ r. r ≡ validated board.now (asked_in request.now.body)) }
 {
@@ -172,7 +178,7 @@ fn validate(alloc: Global, board: &Board, request: &Request) -> Result<Reply, Me
     }
 }
 
-/// Registers a client. Nothing is stored: the request only has to send an object.
+/// Registers a client: 202, or 400 `BadReport` if the body isn't a JSON object. Nothing is stored.
 fn register(alloc: Global, board: &Board, request: &Request, kind: Kind) -> Result<Reply, Memory>
     ensures { IfOk result (λ r. r ≡ registered request.now (shown_by board.now request.now kind)) }
 {
@@ -185,7 +191,7 @@ fn register(alloc: Global, board: &Board, request: &Request, kind: Kind) -> Resu
     }
 }
 
-/// The toggles that the request's token sees: all of them, or those that are on.
+/// The reply with the toggles that the request's token sees. `all`: with those that are off, too.
 fn toggles(
     alloc: Global,
     board: &Board,
@@ -201,6 +207,7 @@ fn toggles(
     }
 }
 
+/// As `toggles`, for an accepted token. 400 `BadContext` if the request's context can't be read.
 fn toggles_for(
     alloc: Global,
     board: &Board,
@@ -262,7 +269,7 @@ fn placed(alloc: Global, mut context: Context, environment: &str) -> Result<Cont
     }
 }
 
-/// The document of a feature that the request's token sees.
+/// The reply with the document of a feature, or 404 `NoSuchFeature` if the request's token doesn't see it.
 fn feature(
     alloc: Global,
     board: &Board,
@@ -280,6 +287,7 @@ fn feature(
     }
 }
 
+/// As `feature`, for an accepted token.
 fn feature_of(alloc: Global, ready: &Ready, name: &str) -> Result<Reply, Memory>
     ensures { IfOk result (λ r. r ≡ document_reply (feature_named name.now (seen ready.now).features)) }
 {
@@ -292,8 +300,9 @@ fn feature_of(alloc: Global, ready: &Ready, name: &str) -> Result<Reply, Memory>
     }
 }
 
-/// The features and segments that the request's token sees, with segments inlined for clients that don't know them. The
-/// reply is 304 if the request has the feed's tag.
+/// The reply with the feed: the features and segments that the request's token sees. For clients that don't know
+/// segments, the constraints of each segment are copied into the strategies that use it. 304 if the request has the
+/// feed's tag.
 fn feed(alloc: Global, board: &Board, request: &Request) -> Result<Reply, Memory>
     ensures { IfOk result (λ r. r ≡ feed_reply board.now request.now (ready_by board.now request.now Kind.Client)) }
 {
@@ -306,6 +315,7 @@ fn feed(alloc: Global, board: &Board, request: &Request) -> Result<Reply, Memory
     }
 }
 
+/// As `feed`, for an accepted token. 503 `TooManyConstraints` if the segments can't be inlined.
 fn feed_for(
     alloc: Global,
     board: &Board,
@@ -328,7 +338,7 @@ fn feed_for(
     }
 }
 
-/// The tag of a feed, whose segments may be inlined.
+/// The tag of a feed. `inlined`: whether its segments are inlined.
 fn feed_tag(alloc: Global, board: &Board, inlined: bool, ready: &Ready) -> Result<Text, Memory>
     ensures { IfOk result (λ tag. tag ≡ feed_tag board.now inlined ready.now) }
 {
@@ -339,11 +349,11 @@ fn feed_tag(alloc: Global, board: &Board, inlined: bool, ready: &Ready) -> Resul
     tag_of(alloc, board, ready.place, version.epoch, version.number)
 }
 
-/// The content of a feed: what the token sees, with segments inlined if asked for.
+/// The content of a feed: the state that the token sees, with its segments inlined if `inlined`.
 ///
 /// # Errors
-///
-/// `TooMany` if a strategy would have more than 100 constraints. `Memory` if it runs out of memory.
+/// - `TooMany`: a strategy would have more than 100 constraints.
+/// - `Memory`: out of memory.
 fn feed_state(alloc: Global, inlined: bool, ready: &Ready) -> Result<State, InlineRefusal>
     ensures state { Gives InlineRefusal.Memory result (feed_state inlined (seen ready.now)) }
     ensures valid { IfOk result IsValidState }
@@ -360,7 +370,7 @@ fn feed_state(alloc: Global, inlined: bool, ready: &Ready) -> Result<State, Inli
     }
 }
 
-/// The reply with the feed of a state, and its tag.
+/// The reply with this tag and the feed of this state.
 fn feed_with(alloc: Global, ready: &Ready, tag: Text, state: &State) -> Result<Reply, Memory>
     requires { IsValidState state.now }
     ensures { IfOk result (λ r. r ≡ feed_with ready.now tag (Ok state.now)) }
@@ -377,7 +387,7 @@ fn feed_with(alloc: Global, ready: &Ready, tag: Text, state: &State) -> Result<R
     Ok(tagged_text(tag, text))
 }
 
-/// The changes since the number in the request's tag, as its token sees them.
+/// The reply with the changes since the number in the request's tag, as the request's token sees them.
 fn changes(alloc: Global, board: &Board, request: &Request) -> Result<Reply, Memory>
     ensures { IfOk result (λ r. r ≡ delta_reply board.now request.now (ready_by board.now request.now Kind.Client)) }
 {
@@ -387,6 +397,7 @@ fn changes(alloc: Global, board: &Board, request: &Request) -> Result<Reply, Mem
     }
 }
 
+/// As `changes`, for an accepted token.
 fn changes_for(
     alloc: Global,
     board: &Board,
@@ -399,8 +410,8 @@ fn changes_for(
     news_since(alloc, board, ready, since)
 }
 
-/// Replies with the changes since a number, or with a hydration if there is no number, as the token sees them. Status 304 if nothing is
-/// new.
+/// The reply with the changes since a number, as the token sees them, or with a hydration (the whole state). 304 if
+/// nothing is new.
 fn news_since(
     alloc: Global,
     board: &Board,
@@ -425,6 +436,7 @@ fn news_since(
     }
 }
 
+/// The reply 304 with the tag of this number, or without a tag if there is no number.
 fn not_modified_at(
     alloc: Global,
     board: &Board,
@@ -442,7 +454,7 @@ fn not_modified_at(
     }
 }
 
-/// The tag of an answer at a number of the version's epoch.
+/// The tag of the content at this number, in the epoch of the environment's version.
 fn tag_at(alloc: Global, board: &Board, ready: &Ready, number: u64) -> Result<Text, Memory>
     ensures { IfOk result (λ tag. tag ≡ tag_at board.now ready.now number) }
 {
@@ -466,7 +478,7 @@ fn has_tag(request: &Request, tag: &str) -> bool
     }
 }
 
-/// The project names as a feed lists them.
+/// The project names in a feed: those of the token, or `*` if it gives access to all projects.
 fn listed(alloc: Global, projects: &Projects) -> Result<List<Text>, Memory>
     ensures { IfOk result (λ names. names ≡ listed projects.now) }
 {

@@ -1,4 +1,4 @@
-//! What a request says about its client.
+//! Whether the client of a request knows segments, by the version of the client specification that the request names.
 ghost use Rattle.std.specs.Prelude.{◌≡◌, IfOk};
 ghost use Rattle.std.specs.Ordering.{is_lt};
 ghost use Rattle.semver.specs.Identifiers.{parts_of};
@@ -12,7 +12,7 @@ use unl_documents::Memory;
 use unl_http_api::{Request, utf8_in};
 
 /// Whether the request names a version of the client specification whose clients don't know segments: a full version of
-/// Semantic Versioning 2.0.0 with precedence below 4.2.0.
+/// Semantic Versioning 2.0.0 with precedence below 4.2.0. Without such a version, a client counts as knowing segments.
 pub(crate) fn knows_no_segments(alloc: Global, request: &Request) -> Result<bool, Memory>
     ensures { IfOk result (λ old. old ≡ knows_no_segments request.now) }
 {
@@ -22,6 +22,7 @@ pub(crate) fn knows_no_segments(alloc: Global, request: &Request) -> Result<bool
     }
 }
 
+/// Whether the bytes are the text of a full version below 4.2.0.
 fn names_old_version(alloc: Global, bytes: &[u8]) -> Result<bool, Memory>
     ensures { IfOk result (λ old. old ≡ is_before_segments (version_in bytes.now)) }
 {
@@ -31,6 +32,7 @@ fn names_old_version(alloc: Global, bytes: &[u8]) -> Result<bool, Memory>
     }
 }
 
+/// Whether the text is a full version below 4.2.0.
 fn is_old_version(alloc: Global, text: &str) -> Result<bool, Memory>
     ensures { IfOk result (λ old. old ≡ is_before_segments (version_of text.now)) }
 {
@@ -40,7 +42,7 @@ fn is_old_version(alloc: Global, text: &str) -> Result<bool, Memory>
     }
 }
 
-/// Whether a version comes before the first one whose clients know segments.
+/// Whether a version has precedence below 4.2.0, the first version whose clients know segments.
 fn is_before_first(version: &Version) -> bool
     ensures { result ≡ is_lt (precedence (parts_of version.now) first_with_segments) }
 {

@@ -1,4 +1,4 @@
-//! Laws of the definitions of tags and of what a token sees.
+//! Facts about tags, and about the revision that a token sees. Each function is empty: its contract states the fact.
 ghost use Rattle.std.specs.Prelude.{◌≡◌, ℕ, Ok, Option};
 ghost use Rattle.unl_core.specs.declared.board.Board.{Board};
 ghost use Rattle.unl_core.specs.Histories.{AllRepresented, Histories, ShowsRevisions, both_see};
@@ -12,19 +12,20 @@ ghost use Rattle.unl_http_api.specs.declared.request.Request.{Request};
 ghost use Rattle.unl_tokens.specs.declared.kind.Kind.{Kind};
 ghost use Rattle.unl_tokens.specs.Names.{sees};
 
-/// A number is read from a tag only if it is exactly the tag of that number.
+/// If a number is read from a tag, the tag is exactly the one that is written for that number.
 pub fn tag_is_of_its_number()
     ensures { TagIsOfItsNumber }
 {}
 
-/// A tag's number is read back from the tag.
+/// From the tag that is written for a number below 2^64, that number is read.
 pub fn tag_is_read()
     ensures { TagIsRead }
 {}
 
-/// If the version of each slot of a board is a revision of its environment's line of histories, a token sees one
-/// revision of that line, and the events it is sent are sent of that line. Both are filtered by the projects that the
-/// slot and the token see.
+/// An environment has a line of histories: for each epoch, the list of its events. Assume that the version of each slot
+/// is a revision of its environment's line: the state after the events of one epoch up to some number. Then a token
+/// sees one revision of that line, and each batch of events for the token is a batch of that line. The revision and the
+/// batch show only the projects that are visible both in the slot and to the token.
 pub fn answers_show_one_revision()
     ensures state { (histories : Histories) (board : Board) → AllRepresented histories board.slots → ShowsRevisions histories board }
     ensures events { (histories : Histories) (board : Board) (q : Request) (kind : Kind) (ready : Ready) (since : Option ℕ) (batch : Batch)

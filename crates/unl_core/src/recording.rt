@@ -1,4 +1,4 @@
-//! Adds a request's report to the metrics book.
+//! Adds the report of an answered request to the metrics book.
 ghost use Rattle.std.specs.Prelude.{◌≡◌, Err, IfOk, IfSome, Ok, OnErr, OnOk};
 ghost use Rattle.unl_core.specs.Recording.{final_book, final_reply, summed};
 ghost use Rattle.unl_metrics.specs.Reports.{IsReport};
@@ -11,8 +11,11 @@ use unl_documents::{Memory, Text};
 use unl_http_api::Reply;
 use unl_metrics::{AddRefusal, MetricsBook, Report};
 
-/// Adds the answer's report to the book and returns the reply: the answer's own, or the refusal 503 `MetricsFull` if the
-/// book has no room. The book is then unchanged, as on an error.
+/// Adds the answer's report, if it has one, to the book. Returns the answer's reply, or the refusal 503 `MetricsFull`
+/// if the book has no room for the report; the book is then unchanged.
+///
+/// # Errors
+/// `Memory`: out of memory. The book is unchanged.
 pub fn record_report(alloc: Global, book: &mut MetricsBook, answer: Answer) -> Result<Reply, Memory>
     requires { IfSome answer.report IsReport }
     ensures reply { IfOk result (λ reply. reply ≡ final_reply book.old answer) }
@@ -26,7 +29,7 @@ pub fn record_report(alloc: Global, book: &mut MetricsBook, answer: Answer) -> R
     }
 }
 
-/// Adds a report for its environment, if there is one.
+/// Adds the report of an environment to the book. Does nothing if there is no report or no environment.
 fn sum_up(
     alloc: Global,
     book: &mut MetricsBook,

@@ -1,4 +1,4 @@
-//! The token of a request, and the version of its environment.
+//! Finds the token of a request in the board's book, and the snapshot of the token's environment.
 ghost use Rattle.std.specs.Prelude.{◌≡◌};
 ghost use Rattle.unl_core.specs.Board.{snapshot_in};
 ghost use Rattle.unl_core.specs.Shown.{entry_of, is_kind, ready_by, shown_at, shown_by, with_its_version};
@@ -16,16 +16,18 @@ pub enum TokenRefusal {
     NoToken,
     /// The book has no such token.
     UnknownToken,
-    /// The token is of the other kind.
+    /// The token is for the other API: a client token at a frontend route, or the reverse.
     WrongKind,
-    /// The token's environment has no version yet.
+    /// The token's environment has no snapshot yet.
     NotReady,
 }
 
-/// A token, and its position in the book.
+/// The token of a request, found in the book.
 #[derive(Drop)]
 pub(crate) struct Shown<'b> {
+    /// The position of the token in the book, from 0.
     pub place: u32,
+    /// The token.
     pub token: &'b Token,
 }
 
@@ -37,11 +39,14 @@ impl<'b> Model for Shown<'b> {
     ghost view = { λ s. record { place = s.place; token = s.token.now } };
 }
 
-/// A token of the book with its position, and the snapshot of its environment.
+/// The token of a request, found in the book, and the snapshot of its environment.
 #[derive(Drop)]
 pub(crate) struct Ready<'b> {
+    /// The position of the token in the book, from 0.
     pub place: u32,
+    /// The token.
     pub token: &'b Token,
+    /// The current snapshot of the token's environment.
     pub snapshot: &'b Snapshot,
 }
 
@@ -109,6 +114,7 @@ pub(crate) fn shown_by<'b>(
     Ok(shown)
 }
 
+/// The token with the snapshot of its environment, or `NotReady` if the environment has none yet.
 fn with_its_version<'b>(board: &'b Board, shown: &Shown<'b>) -> Result<Ready<'b>, TokenRefusal>
     ensures { result ≡ with_its_version shown.now (snapshot_in shown.now.token.environment board.now.slots) }
 {

@@ -3,7 +3,7 @@
 /// The request succeeded.
 pub const OK: u16 = 200;
 
-/// What the request sends was taken.
+/// The report or registration in the request was accepted.
 pub const ACCEPTED: u16 = 202;
 
 /// The client has the current content.
@@ -21,7 +21,7 @@ pub const FORBIDDEN: u16 = 403;
 /// There is no such route or resource.
 pub const NOT_FOUND: u16 = 404;
 
-/// The route doesn't have the method.
+/// The route doesn't accept the method of the request.
 pub const METHOD_NOT_ALLOWED: u16 = 405;
 
 /// The request doesn't fit the current state.

@@ -1,4 +1,4 @@
-//! The entity tags of answers.
+//! Writes the entity tags (`ETag`) of answers, and reads the number in the tag of a request.
 ghost use Rattle.std.specs.Prelude.{◌≡◌, [], length, IfOk, string_bytes};
 ghost use Rattle.unl_core.specs.Tag.{if_spelled, inlined_tag, number_of_tag, number_part, since_of, tag_prefix, tag_text};
 ghost use Rattle.unl_core.specs.Tag.{whole_in, with_epoch};
@@ -10,7 +10,7 @@ use unl_documents::parsing::read_json;
 use unl_documents::{Memory, Text};
 use unl_http_api::Bytes;
 
-/// The tag for the token at `place`, of the content at `number` of `epoch`.
+/// The tag of the content at the revision `number` within `epoch`, for the token at index `place` of the board's book.
 pub(crate) fn tag_of(
     alloc: Global,
     board: &Board,
@@ -24,7 +24,7 @@ pub(crate) fn tag_of(
     Ok(Text::from(format!(in alloc; "{prefix}{number}\"")?))
 }
 
-/// The tag of a feed whose segments are inlined.
+/// As `tag_of`, for a feed whose segments are inlined.
 pub(crate) fn inlined_tag_of(
     alloc: Global,
     board: &Board,
@@ -49,7 +49,7 @@ fn tag_prefix(alloc: Global, board: &Board, place: u32, epoch: u64) -> Result<St
     format!(in alloc; "\"{boot:016x}-{generation}-{place}-{epoch}")
 }
 
-/// The epoch and a point. Empty if the epoch is 0.
+/// The epoch followed by a point, or an empty text if the epoch is 0.
 fn epoch_mark(alloc: Global, epoch: u64) -> Result<String, AllocError>
     ensures { IfOk result (λ s. string_bytes s ≡ with_epoch epoch []) }
 {
@@ -59,8 +59,8 @@ fn epoch_mark(alloc: Global, epoch: u64) -> Result<String, AllocError>
     format!(in alloc; "{epoch}.")
 }
 
-/// The number in a request's tag. `None` if there is no tag, or if it isn't exactly the tag of some number for this token
-/// and epoch.
+/// The number in a request's tag. `None` if there is no tag, or if it isn't exactly the tag of some number for this
+/// token and epoch.
 pub(crate) fn since_of(
     alloc: Global,
     board: &Board,
@@ -76,6 +76,7 @@ pub(crate) fn since_of(
     }
 }
 
+/// As `since_of`, for a given tag.
 #[tactic(auto, unfolding(crate::specs::Tag::number_of_tag))]
 fn number_of_tag(
     alloc: Global,
@@ -120,7 +121,8 @@ fn tag_prefix_length(alloc: Global, board: &Board, place: u32, epoch: u64) -> Re
     Ok(prefix.len())
 }
 
-/// The digits of a tag whose number comes after `prefix_length` bytes. Empty if the tag is too short.
+/// The bytes of a tag from `prefix_length` to its last byte, the closing quote, which is excluded. Empty if the tag is
+/// too short.
 fn number_part(prefix_length: usize, tag: &[u8]) -> &[u8]
     ensures { result.now ≡ number_part prefix_length tag.now }
 {
@@ -130,7 +132,7 @@ fn number_part(prefix_length: usize, tag: &[u8]) -> &[u8]
     &tag[prefix_length..tag.len() - 1]
 }
 
-/// The whole number that is written in JSON.
+/// Parses a whole number below 2^64 in JSON. `None` if the bytes are anything else.
 fn whole_in(alloc: Global, bytes: &[u8]) -> Result<Option<u64>, Memory>
     ensures { IfOk result (λ number. number ≡ whole_in bytes.now) }
 {
