@@ -1,4 +1,4 @@
--- What inlining segments leaves unchanged.
+-- Inlining of segments changes no evaluation.
 use Rattle.std.proofs.Common.{◌≡◌, ℕ, ◌+◌, Bool, true, false, cond, List, [], ◌∷◌, length, map, Option, Some, None, refl, ap, ◌∙◌}
 use Rattle.std.specs.Prelude.{◌&&◌, ◌||◌, ◌==◌, is_some, option_map, option_and_then, slice_get}
 use Rattle.std.specs.Option.{option_map_or, option_or}

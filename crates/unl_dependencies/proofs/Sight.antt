@@ -1,4 +1,4 @@
--- Looking up a name among the visible features.
+-- The lookup of a name among the features of visible projects.
 use Rattle.std.proofs.Common.{◌≡◌, ℕ, Bool, true, false, List, [], ◌∷◌, map, None, Less, nat_cmp, inl, inr, refl, ap, sym, ◌∙◌}
 use Rattle.std.specs.Prelude.{filter, option_and_then}
 use Rattle.std.specs.Cmp.Lexicographic.{slice_cmp}

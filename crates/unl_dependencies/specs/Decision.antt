@@ -12,6 +12,7 @@ abbrev pub evaluation_by : Decision → Evaluation
 evaluation_by Off = off
 evaluation_by (On variant) = on_with (option_map (λ v. v.now) variant)
 
--- The dependency requires a parent that is on or off as given, with a variant of this name.
+-- Whether a dependency is satisfied by its parent feature, which is `on` or off and has the variant `name`. If the dependency requires
+-- the parent to be on, it may also list variants; `name` must then be one of them. Otherwise the parent must be off.
 abbrev pub asks_for : Dependency → Bool → List ℕ → Bool
 asks_for d on name = if d.enabled then on && (length d.variants == 0 || is_among d.variants name) else not on

@@ -26,7 +26,7 @@ abbrev pub is_active_at : Feature → List Segment → Fields → Moment → ℕ
 is_active_at f segments context moment place =
     option_map_or (λ s. is_active s f.name place segments context moment) (slice_get f.strategies place) false
 
--- The least index whose strategy is active, where the first strategy has the index `place`.
+-- The index of the first active strategy of a list, if there is one. The indexes are counted from `place`.
 abbrev pub active_from : ℕ → List Strategy → List ℕ → List Segment → Fields → Moment → Option ℕ
 active_from place [] feature segments context moment = None
 active_from place (s ∷ ss) feature segments context moment =
@@ -42,11 +42,12 @@ unfoldable pub is_on : Bool → Feature → List Segment → Fields → Moment �
 is_on met f segments context moment =
     f.enabled && (met && (length f.strategies == 0 || is_some (first_active f segments context moment)))
 
--- The random id's number for the given mark.
+-- The random id of a feature, from 1 to 10,000, for the variants of one strategy or for the feature's own, as `mark` says.
 abbrev pub random_of : Feature → Mark → Moment → ℕ
 random_of f mark moment = random_id (random_number f.name mark moment.word)
 
--- The variant that is chosen in a group.
+-- The variant that is chosen for a context, if there is one. A choice by weight hashes `group` together with the text of the context
+-- that the stickiness selects. If the stickiness selects no text, the random id `random` is hashed instead.
 unfoldable pub variant_in : List ℕ → List Variant → Fields → ℕ → Option Variant
 variant_in group variants context random = option_and_then (slice_get variants) (choice_of group variants context random)
 
@@ -92,8 +93,9 @@ evaluation_where met f segments context moment =
 abbrev pub feature_named : List ℕ → List Feature → Option Feature
 feature_named name features = find (λ f. bytes_eq f.name name) features
 
--- The parent's evaluation is the one that the dependency requires: off; or on, and with one of the listed variants if there
--- are any. `disabled` is compared like any other name.
+-- The parent's evaluation is the one that the dependency requires. A dependency that is not enabled requires that the parent is
+-- off. Any other requires that the parent is on and, if the dependency lists variants, that the parent's variant is one of
+-- them. Without a variant, the name `disabled` is compared like any other name.
 abbrev pub agrees : Dependency → Evaluation → Bool
 agrees d parent =
     if d.enabled then parent.on && (length d.variants == 0 || is_among d.variants parent.variant.name) else not parent.on

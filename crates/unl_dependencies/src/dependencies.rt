@@ -1,4 +1,4 @@
-//! Decides whether a feature's dependencies are met.
+//! Decides whether the dependencies of a feature on other features (its parents) are met.
 ghost use Rattle.std.specs.Prelude.{◌≡◌, IfOk};
 ghost use Rattle.unl_documents.specs.States.{IsValidState};
 ghost use Rattle.unl_documents.specs.Valid.{IsValidFeature};
@@ -14,8 +14,8 @@ use unl_context::Context;
 use unl_documents::{Dependency, Memory, Text};
 use unl_strategies::Moment;
 
-/// Whether all of the dependencies are met in a state whose documents are within their limits. The only error is out of
-/// memory.
+/// Whether all of the dependencies are met in a state. The state's documents are within their limits. The only error is
+/// out of memory.
 #[tactic(auto, unfolding(crate::specs::Evaluation::dependencies_met))]
 pub fn all_met<F: Features>(
     alloc: Global,
@@ -77,15 +77,17 @@ pub fn is_met_by<F: Features>(
     Ok(decision_agrees(dependency, decision))
 }
 
-/// Whether a parent's evaluation is the one that a dependency requires: off; or on, and with one of the listed variants if
-/// the dependency lists any. `disabled` is compared like any other name. Does not allocate.
+/// Whether the evaluation of a parent is the one that a dependency requires. A dependency that is not `enabled`
+/// requires that the parent is off. Any other requires that the parent is on and, if the dependency lists variants,
+/// that the parent's variant is one of them. Without a variant, the name `disabled` is compared like any other name.
+/// Does not allocate.
 pub fn agrees(dependency: &Dependency, parent: &Evaluation) -> bool
     ensures { result ≡ agreeing dependency.now parent.now }
 {
     asks_for(dependency, parent.on, parent.variant.name.as_str())
 }
 
-/// Like [`agrees`], for a parent's decision.
+/// Like [`agrees`], for the decision on a parent.
 fn decision_agrees(dependency: &Dependency, parent: Decision) -> bool
     ensures { result ≡ agreeing dependency.now (evaluation_by parent.entry) }
 {
@@ -96,7 +98,7 @@ fn decision_agrees(dependency: &Dependency, parent: Decision) -> bool
     }
 }
 
-/// Whether a dependency requires a parent that is on or off as given, with a variant of the given name.
+/// Whether a dependency accepts a parent with this result: on or off, and with the variant of this name.
 fn asks_for(dependency: &Dependency, on: bool, variant: &str) -> bool
     ensures { result ≡ asks_for_parent dependency.now on variant.now }
 {

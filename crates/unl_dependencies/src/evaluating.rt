@@ -1,4 +1,4 @@
-//! Evaluates a feature in a state.
+//! Evaluates a feature of a state for a context, including its dependencies.
 ghost use Rattle.std.specs.Prelude.{◌≡◌, IfOk};
 ghost use Rattle.unl_documents.specs.States.{IsValidState};
 ghost use Rattle.unl_documents.specs.Valid.{IsValidFeature};

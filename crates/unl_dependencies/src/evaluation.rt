@@ -1,4 +1,4 @@
-//! The results of evaluations.
+//! The results of evaluations: with a copied variant ([`Evaluation`]) or a borrowed one ([`Decision`]).
 ghost use Rattle.std.specs.Prelude.{◌≡◌, IfOk, codes, option_map};
 ghost use Rattle.unl_dependencies.specs.Evaluation.{off as off_evaluation, on_with as evaluation_on_with, variant_answer};
 ghost use Rattle.unl_dependencies.specs.Decision.{evaluation_by};
@@ -18,7 +18,7 @@ pub(crate) fn no_variant() -> &'static str
 pub struct Evaluation {
     /// Whether the feature is on.
     pub on: bool,
-    /// The feature's variant.
+    /// The variant that the context gets.
     pub variant: VariantAnswer,
 }
 
@@ -33,7 +33,7 @@ pub struct VariantAnswer {
     pub payload: Option<Payload>,
 }
 
-/// The evaluation of a feature for a context at a moment, with a borrowed variant.
+/// Like [`Evaluation`], but with a borrowed variant.
 #[derive(Clone, Copy)]
 pub enum Decision<'a> {
     /// The feature is off.
@@ -77,7 +77,7 @@ impl Evaluation {
 }
 
 impl VariantAnswer {
-    /// Copies the reported parts of a variant.
+    /// Copies the name and payload of a variant.
     fn of(alloc: Global, variant: Option<&Variant>) -> Result<VariantAnswer, Memory>
         ensures { IfOk result (λ answer. answer ≡ variant_answer (option_map (λ v. v.now) variant.entry)) }
     {

@@ -1,4 +1,4 @@
-//! The data that evaluations are computed from.
+//! The features that evaluations are computed from.
 ghost use Rattle.std.specs.Prelude.{◌≡◌, IfOk, IfSome, option_map};
 ghost use Rattle.unl_documents.specs.States.{IsValidState};
 ghost use Rattle.unl_documents.specs.Valid.{IsValidFeature};
@@ -12,12 +12,13 @@ use unl_context::Context;
 use unl_documents::{Feature, Memory, State};
 use unl_strategies::{Moment, active};
 
-/// Features that can be looked up by name and whose strategies can be tested. Contracts see a state.
+/// The features of a state, for evaluation. [`State`] implements it for single evaluations, and a compiled form can
+/// implement it for many. Contracts describe an implementation by its `state`.
 pub trait Features {
     /// The representation of a feature.
     type Feature: Drop;
 
-    /// The state that is evaluated.
+    /// The state that is evaluated, with its features and segments.
     ghost state: { Self → Whole };
 
     /// The document of a feature.
@@ -31,8 +32,8 @@ pub trait Features {
     fn document(feature: &Self::Feature) -> &Feature
         ensures { result.now ≡ document feature.now };
 
-    /// Whether a feature has a strategy at the index `place`, from 0, and that strategy is active. The only error is out of
-    /// memory.
+    /// Whether a feature has a strategy at the index `place`, from 0, and that strategy is active. The only error is
+    /// out of memory.
     fn is_active(
         &self,
         alloc: Global,
@@ -83,7 +84,7 @@ impl Features for State {
     }
 }
 
-/// Returns the feature with the given name, if there is one. As part of a valid state, it is within its limits.
+/// Returns the feature with the given name, if there is one. The state is valid, so the feature is within its limits.
 pub(crate) fn valid_named<'a, F: Features>(features: &'a F, name: &str) -> Option<&'a F::Feature>
     requires valid { IsValidState (F.state features.now) }
     ensures value { option_map (λ f. F.document f.now) result ≡ feature_with name.now (F.state features.now).features }

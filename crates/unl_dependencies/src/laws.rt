@@ -1,8 +1,8 @@
-//! Laws on the evaluations of a whole state. Each is the contract of an empty function.
+//! Laws on the evaluations of a whole state. Each law is the contract of a function that does nothing.
 ghost use Rattle.unl_dependencies.specs.Laws.{NoneWhereLacking, EachIsFound, ParentEvaluatesAlone, InliningChangesNothing, FirstIsLeast};
 ghost use Rattle.unl_dependencies.specs.Laws.{NoneIsActive, SeenAmongAll};
 
-/// An evaluation is absent exactly if no feature of the state has the name.
+/// [`evaluate`](crate::evaluate) returns `None` exactly if no feature of the state has the name.
 pub fn none_exactly_if_absent()
     ensures { NoneWhereLacking }
 {}
@@ -12,13 +12,14 @@ pub fn each_is_found()
     ensures { EachIsFound }
 {}
 
-/// A parent that can satisfy a dependency has the same evaluation as a feature of the state and on its own, with nothing but
-/// the segments.
+/// The evaluation of a feature without dependencies depends only on the feature itself and the segments of the state,
+/// not on the other features. Only such a feature, as the parent in a dependency, can satisfy the dependency.
 pub fn parent_evaluates_alone()
     ensures { ParentEvaluatesAlone }
 {}
 
-/// In any state, features have the same evaluations after the segments that strategies refer to are inlined.
+/// In any state, features have the same evaluations after the segments that strategies refer to are inlined: their
+/// constraints are copied into the strategies.
 pub fn inlining_changes_nothing()
     ensures { InliningChangesNothing }
 {}
@@ -30,8 +31,8 @@ pub fn first_is_least()
     ensures none { NoneIsActive }
 {}
 
-/// If the features' names are strictly ascending, looking up a name among the features whose projects are visible returns
-/// the feature with that name among all features, provided that its project is visible.
+/// If the names of the features are strictly ascending, the lookup of a name among the features of visible projects
+/// returns the feature with that name among all features, provided that its project is visible.
 pub fn seen_among_all()
     ensures { SeenAmongAll }
 {}

@@ -17,8 +17,8 @@ use unl_documents::{Feature, List, Memory, Variant};
 use unl_strategies::{Mark, Moment, parameter_or, random_for, random_id};
 use unl_variants::choose;
 
-/// Evaluates a feature, given whether its dependencies are met. The feature is within its limits. The only error is out of
-/// memory.
+/// Evaluates a feature. `met` says whether its dependencies are met. The feature is within its limits. The only error
+/// is out of memory.
 pub fn evaluate_where<F: Features>(
     alloc: Global,
     met: bool,
@@ -167,8 +167,9 @@ pub fn own_variant<'a>(
     )
 }
 
-/// Returns the variant that is chosen in a group. The random number, that of a feature's mark, is computed only if there are
-/// variants.
+/// Returns the variant that is chosen for the context: by an override, or by the hash of `group` and the context's id.
+/// For a context without an id, the id is derived from the random number of the feature for the purpose `mark`. That
+/// number is computed only if there are variants.
 #[tactic(auto, unfolding(crate::specs::Evaluation::variant_in, unl_variants::specs::Variant::choice_of))]
 fn variant_drawn<'a>(
     group: &str,
@@ -189,7 +190,8 @@ fn variant_drawn<'a>(
     variant_in(group, variants, context, random_id(random))
 }
 
-/// Returns the variant that is chosen in a group, given the random id's number.
+/// Returns the variant that is chosen for the context: by an override, or by the hash of `group` and the context's id.
+/// For a context without an id, the id is `random`.
 #[tactic(auto, unfolding(crate::specs::Evaluation::variant_in))]
 fn variant_in<'a>(
     group: &str,
