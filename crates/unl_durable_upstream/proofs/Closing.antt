@@ -1,4 +1,4 @@
--- How serving a database ends once it is closed, and so the program.
+-- The result of serving and closing a database, and the result of the program.
 use Rattle.std.proofs.Common.{◌≡◌, ◌∙◌, inl, inr, ℕ, List, Result, Ok, Err, IfOk, sym, ap, subst}
 use Rattle.unl_base.specs.Doors.{IsClosedAt}
 use Rattle.unl_durable_upstream.specs.Databases.{IsClosedWith, IsNewDoor, ProgramEnds, RunsFile, ServesAndCloses, unopened}
@@ -21,7 +21,7 @@ failed initial port Keeper last before after ends = (last, ends)
 failed initial port Door last before after ends = (last, ends)
 failed initial port Memory last before after ends = inl (ap (λ (f : Facing). f.door) ends.same)
 
--- serving ended, and the database was closed where it ended well
+-- serving ended, and the database was closed if serving succeeded
 closed : (initial : UpstreamState) (port : ℕ) (served result : Result ℕ ProgramFault) (last : KeptState) (before after : Facing)
     → ReopeningEnds (kept_state initial unopened) port served last before after → IsClosedWith served result
     → ServesAndCloses initial port result before after
@@ -36,7 +36,7 @@ closed initial port (Ok served) (Err Memory) last before after ends is = inr (se
 closed initial port (Err fault) result last before after ends is =
     subst (λ (r : Result ℕ ProgramFault). ServesAndCloses initial port r before after) (sym is) (failed initial port fault last before after ends)
 
--- the same, from a keeper that was not opened yet
+-- as above, from a keeper that was not opened yet
 pub serves_and_closes : (initial : UpstreamState) (port : ℕ) (keeper : KeeperState) (served result : Result ℕ ProgramFault)
     (before after : Facing) → keeper ≡ unopened → ((last : KeptState) × ReopeningEnds (kept_state initial keeper) port served last before after)
     → IsClosedWith served result → ServesAndCloses initial port result before after
@@ -44,12 +44,12 @@ serves_and_closes initial port keeper served result before after is ends closes 
     closed initial port served result ends.0 before after
     (subst (λ (k : KeeperState). ReopeningEnds (kept_state initial k) port served ends.0 before after) is ends.1) closes
 
--- the door failed only if it did so while links were served
+-- the result is `Door` only if serving the links ended with `Door`
 pub door_failed : (served result : Result ℕ ProgramFault) → IsClosedWith served result → result ≡ Err Door → served ≡ Err Door
 door_failed (Ok served) result is fails = absurd (subst (IsClosedWith (Ok served)) fails is)
 door_failed (Err fault) result is fails = sym is ∙ fails
 
--- the door is closed if all ended well
+-- the door is closed if serving and closing the database succeeded
 pub closed_at : (initial : UpstreamState) (port : ℕ) (result : Result ℕ ProgramFault) (before after : Facing)
     → ServesAndCloses initial port result before after → IfOk result (λ served. IsClosedAt port before.door after.door)
 closed_at initial port (Ok served) before after ends = ends.1.serves.1
@@ -57,7 +57,7 @@ closed_at initial port (Err fault) before after ends = tt
 
 -- ---- the program
 
--- the arguments were read, and the file was run with a new door
+-- the arguments were read, and the file was served with a new door
 pub reads_and_runs : (words : List (List ℕ)) (result : Result ℕ ProgramFault) (arguments : ProgramArguments) (before after : Facing)
     → RunsFile arguments.options result before after → IsReading words (Ok arguments) → IsNewDoor before.door → ProgramEnds result
 reads_and_runs words result arguments before after runs reads is_new = (

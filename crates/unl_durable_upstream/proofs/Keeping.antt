@@ -1,4 +1,4 @@
--- What an upstream and its keeper have after links were served.
+-- The commands that an upstream and its keeper have after links were served.
 use Rattle.std.proofs.Common.{◌≡◌, ◌∙◌, inl, inr, ℕ, ◌++◌, List, [], Some, None, Result, Ok, Err, refl, sym, ap, subst, arith}
 use Rattle.std.specs.Prelude.{option_map}
 use Rattle.unl_base.specs.declared.Failed.{Failed}
@@ -17,12 +17,12 @@ use Rattle.unl_upstream.proofs.Reopened.{gives_back}
 
 -- ---- the links
 
--- no draw was used
+-- if no draw was taken, the upcoming draws are unchanged
 none_used : (coming : Coming) → coming ≡ draws_after 0 coming
 none_used None = refl
 none_used (Some draws) = refl
 
--- the links of a door whose links are observable, by commands and draws
+-- the state after serving a door whose links are observable, described by the kept commands and the draws taken
 links_named : (opened last : KeptState) (before after : Facing) (served : ℕ) (links : List (List ℕ)) (returned : List (List ℕ × ℕ))
     → HasKept opened.keeper
     → ServesLinks LinkServed (linking opened before.coming before.door) (linking last after.coming after.door) served links returned
@@ -40,16 +40,16 @@ links_named opened last before after served links returned has serves =
       no_faults = λ none. names.no_faults (omega (arith, carries.faults, none));
     }
 
--- ---- what is kept
+-- ---- the kept commands
 
--- attempts to keep commands are all that changed the upstream and its keeper, however serving ended
+-- however serving ended, nothing but attempts to keep commands changed the upstream and its keeper
 attempts_of : (opened last : KeptState) (port : ℕ) (ended : Result ℕ Failed) (before after : Facing) → HasKept opened.keeper
     → LinksEnd opened port ended last before after → AttemptsPreserve opened last
 attempts_of opened last port (Ok served) before after has ends = ends.0.carries
 attempts_of opened last port (Err failed) before after has (inl same) = subst (AttemptsPreserve opened) (sym same.0) (holds_still opened has)
 attempts_of opened last port (Err failed) before after has (inr ends) = ends.1.carries
 
--- what is kept in the end, of an upstream that was reopened before these attempts
+-- the kept commands after these attempts, for an upstream that was reopened before them
 keeps_acknowledged : (start opened last : KeptState) (command_count : ℕ) → Reopened start command_count opened
     → AttemptsPreserve opened last → KeepsAcknowledged start.up opened last
 keeps_acknowledged start opened last command_count opens all =

@@ -9,7 +9,7 @@ use Rattle.unl_words.specs.declared.refusal.WordsRefusal.TheVariants.{Bad}
 use Rattle.unl_words.specs.declared.words.Words.{Words}
 use Rattle.unl_words.specs.declared.words.Words.TheVariants.{Replay, Check, Edge, Upstream, Follow, Explain, Load}
 
--- the number of links after which the door closes, if the option is not 0
+-- the number of links after which the door closes; `None` (no limit) if the option is 0
 abbrev pub bound_of : ℕ → Option ℕ
 bound_of connections = if nat_lt 0 connections then Some connections else None
 

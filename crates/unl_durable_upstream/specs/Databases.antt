@@ -1,4 +1,4 @@
--- How the program's run over a database file ends.
+-- How a run of the program over a database file ends, for each result.
 use Rattle.std.specs.Prelude.{◌≡◌, ◌⊎◌, ℕ, Bool, false, if◌then◌else◌, List, [], None, Result, Ok, Err}
 use Rattle.unl_base.specs.Doors.{DoorState}
 use Rattle.unl_base.specs.Draws.{TakesDraw}
@@ -22,13 +22,13 @@ use Rattle.unl_words.specs.declared.words.UpstreamArguments.{UpstreamArguments}
 abbrev pub unopened : KeeperState
 unopened = record { opened = false; faults = 0; count = 0; rows = None }
 
--- the initial upstream was reopened from the database, and served links, with this end
+-- the initial upstream was reopened from the database and served links, with this result
 abbrev pub ServesDatabase : UpstreamState → ℕ → Result ℕ ProgramFault → Facing → Facing → Type 0
 ServesDatabase initial port result before after =
     (last : KeptState) × ReopeningEnds (kept_state initial unopened) port result last before after
 
--- How serving a database and then closing it ends. `File` is a fault of closing it, after serving ended well. Where memory ran
--- out, no link was handed out, or that was while the database was closed.
+-- The result of serving a database and then closing it. `File`: serving succeeded, but closing the database failed. `Memory`:
+-- memory ran out before any link was handed out; or serving succeeded, and memory ran out in closing the database.
 abbrev pub ServesAndCloses : UpstreamState → ℕ → Result ℕ ProgramFault → Facing → Facing → Type 0
 ServesAndCloses initial port (Ok served) before after = ServesDatabase initial port (Ok served) before after
 ServesAndCloses initial port (Err BadArguments) before after = ⊥
@@ -39,14 +39,15 @@ ServesAndCloses initial port (Err Door) before after = ServesDatabase initial po
 ServesAndCloses initial port (Err Memory) before after =
     (after.door ≡ before.door) ⊎ ((served : ℕ) × ServesDatabase initial port (Ok served) before after)
 
--- The result once the database was closed (the second), from that of serving it (the first). It is closed only if serving ended
--- well, and a fault is then one of closing it.
+-- The first result is the result of serving the database, the second the result after closing it. The database is closed only if
+-- serving succeeded; an error then comes from closing it.
 abbrev pub IsClosedWith : Result ℕ ProgramFault → Result ℕ ProgramFault → Type 0
 IsClosedWith (Ok served) (Ok count) = count ≡ served
 IsClosedWith (Ok served) (Err fault) = IsOfDatabase fault
 IsClosedWith (Err fault) result = result ≡ Err fault
 
--- A draw was taken, and its word is the boot number of the upstream with these options. Serving its database then ended so.
+-- A draw was taken; its random word is the boot number of the upstream with these options. Then the database was served and
+-- closed, with this result.
 pub record RunsDatabase (options : UpstreamArguments) (result : Result ℕ ProgramFault) (before after : Facing) : Type 0 where
   pub draw : Draw
   pub coming : Coming
@@ -62,7 +63,7 @@ abbrev pub IsUnserved : Result ℕ ProgramFault → Facing → Facing → Type 0
 IsUnserved (Ok served) before after = ⊥
 IsUnserved (Err fault) before after = IsOfDatabase fault × (after ≡ before)
 
--- how a run over a file ends: nothing was served, or its database was
+-- how a run over a file ends: either nothing was served, or the database in the file was served
 pub record RunsFile (options : UpstreamArguments) (result : Result ℕ ProgramFault) (before after : Facing) : Type 0 where
   pub ends : IsUnserved result before after ⊎ RunsDatabase options result before after
 
@@ -72,7 +73,7 @@ pub record IsNewDoor (door : DoorState) : Type 0 where
   pub given : door.given ≡ 0
   pub back : door.back ≡ 0
 
--- the arguments were read, and a run over the file ended so, with a new door
+-- the arguments were read, and the file was served with a new door, with this result
 pub record ReadsAndRuns (words : List (List ℕ)) (result : Result ℕ ProgramFault) : Type 0 where
   pub arguments : ProgramArguments
   pub reads : IsReading words (Ok arguments)
@@ -81,16 +82,16 @@ pub record ReadsAndRuns (words : List (List ℕ)) (result : Result ℕ ProgramFa
   pub is_new : IsNewDoor before.door
   pub runs : RunsFile arguments.options result before after
 
--- the arguments were not read, with this fault
+-- the arguments could not be read, with this error
 abbrev pub IsUnread : List (List ℕ) → Result ℕ ProgramFault → Type 0
 IsUnread words (Ok served) = ⊥
 IsUnread words (Err fault) = IsReading words (Err fault)
 
--- how the program ends, with the arguments of its command line
+-- how the program ends, for some arguments of its command line: they could not be read, or the file was served
 abbrev pub ProgramEnds : Result ℕ ProgramFault → Type 0
 ProgramEnds result = (words : List (List ℕ)) × (IsUnread words result ⊎ ReadsAndRuns words result)
 
--- the exit code of the program: 5 if it ended well and the count of its links could not be printed
+-- the exit code of the program: on success 0, or 5 if the number of served links could not be printed; on an error, the error's code
 abbrev pub exit_code_of : Result ℕ ProgramFault → Bool → ℕ
 exit_code_of (Ok served) printed = if printed then 0 else 5
 exit_code_of (Err fault) printed = code_of fault

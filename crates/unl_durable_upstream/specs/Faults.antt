@@ -11,7 +11,7 @@ abbrev pub fault_of : Error → ProgramFault
 fault_of (SqliteFailure OutOfMemory) = Memory
 fault_of error = File error
 
--- the fault is that of opening or closing a database, or out of memory
+-- the error comes from opening or closing a database, or memory ran out
 abbrev pub IsOfDatabase : ProgramFault → Type 0
 IsOfDatabase BadArguments = ⊥
 IsOfDatabase (File error) = ⊤

@@ -1,5 +1,5 @@
--- How an upstream ends on a keeper: it is reopened from the keeper's rows, then serves the links of its door. What is not
--- observable of a keeper, of a door or of draws is `None`.
+-- How an upstream is reopened from its keeper's rows and then serves the links of a door, and how that ends. If a keeper's rows,
+-- a door's links or the draws are not observable, their value here is `None`.
 use Rattle.std.specs.Prelude.{◌≡◌, ◌≢◌, ◌⊎◌, ℕ, ◌+◌, List, [], ◌++◌, length, option_map, Result, Some, Ok, Err}
 use Rattle.unl_base.specs.Doors.{DoorState, IsClosedAt, ListenedAt}
 use Rattle.unl_base.specs.declared.Failed.{Failed}
@@ -27,7 +27,7 @@ code_of Door = 7
 code_of (File error) = 8
 code_of Keeper = 8
 
--- the door and the upcoming draws
+-- the door and the upcoming draws (a draw is the time and the random word of one request)
 pub record Facing : Type 0 where
   pub door : DoorState
   pub coming : Coming
@@ -38,7 +38,7 @@ facing door coming = record { door = door; coming = coming }
 
 -- ---- the links
 
--- An upstream and its keeper served `served` links. Attempts to keep the commands of their requests are all that changed the
+-- An upstream and its keeper served `served` links. Nothing but attempts to keep the commands of their requests changed the
 -- upstream and the keeper, whether or not the door's links are observable.
 pub record ServesDurableLinks (opened last : KeptState) (before after : Facing) (served : ℕ) : Type 0 where
   pub serves_links : ServesKeptLinks (linking opened before.coming before.door) (linking last after.coming after.door) served
@@ -53,8 +53,8 @@ LinksEnd opened port (Err failed) last before after =
     ((last ≡ opened) × (after ≡ before))
     ⊎ ((served : ℕ) × ServesDurableLinks opened last before after served × ListenedAt port before.door after.door)
 
--- The links of a door whose links are observable. Each adds the commands of its requests that were kept, in order, and the
--- keeper keeps all of them after those that it was reopened with. If the keeper never failed, no reply is 503 `KeeperFault`.
+-- What serving did, for a door whose links are observable. Each link adds the kept commands of its requests, in order, and the
+-- keeper keeps them after the commands that it was reopened with. If the keeper never failed, no reply is 503 `KeeperFault`.
 pub record NamesLinks
     (opened last : KeptState) (before after : Facing) (served : ℕ) (links : List (List ℕ)) (returned : List (List ℕ × ℕ)) : Type 0 where
   pub serves : ServesLinks LinkServed (linking opened before.coming before.door) (linking last after.coming after.door) served links
@@ -64,7 +64,7 @@ pub record NamesLinks
   pub no_faults : last.keeper.faults ≡ 0 → NoKeeperFaults opened.up opened.keeper.count before.coming [] 0 opened serves.given_links
       serves.backs names.commands_after names.drawn_after last names.linked
 
--- ---- what is kept
+-- ---- the kept commands
 
 -- Reopening the keeper's rows again, with an initial upstream of the same environments and epoch, restores the kept commands,
 -- or these and one of the commands whose put failed. Only a fault of the keeper or running out of memory can prevent it.
@@ -74,7 +74,7 @@ CanBeReopened initial last failed = (fresh : UpstreamState) (rows : List (List �
     → again.keeper.rows ≡ keeper.rows → Reopens (kept_state fresh keeper) result again → result ≢ Err reopening.Fault
     → result ≢ Err reopening.Memory → GivesBack last failed fresh result again
 
--- What an upstream and its keeper have in the end, from the state in which they were reopened.
+-- The commands that an upstream and its keeper have after serving (`last`), compared to those after reopening (`opened`).
 pub record KeepsAcknowledged (initial : UpstreamState) (opened last : KeptState) : Type 0 where
   -- attempts to keep commands were made in order, and nothing else changed the upstream and its keeper
   pub tried : List KeepAttempt
@@ -90,7 +90,8 @@ pub record KeepsAcknowledged (initial : UpstreamState) (opened last : KeptState)
   -- the keeper's fault count rose by at least the number of puts that failed
   pub faults : RoseBy (faults_among tried) opened.keeper.faults last.keeper.faults
 
--- The upstream was reopened from its keeper's rows, which held `command_count` commands. Then links were served, and that ended so.
+-- The upstream was reopened from its keeper's rows, which held `command_count` commands. Then links were served, and serving
+-- ended with the result `ended`.
 pub record OpensAndServes
     (start : KeptState) (port : ℕ) (ended : Result ℕ Failed) (last : KeptState) (before after : Facing) : Type 0 where
   pub command_count : ℕ
@@ -124,7 +125,7 @@ pub record RefusesRow (start : KeptState) (place : ℕ) (last : KeptState) (befo
   pub of_row : IsOfRow place fault
   pub fails : FailsToReopen start fault last before after
 
--- how reopening and serving ends, on a door that was to listen on this port
+-- how reopening and serving end, for a door that was to listen on this port
 abbrev pub ReopeningEnds : KeptState → ℕ → Result ℕ ProgramFault → KeptState → Facing → Facing → Type 0
 ReopeningEnds start port (Ok served) last before after = OpensAndServes start port (Ok served) last before after
 ReopeningEnds start port (Err BadArguments) last before after = ⊥

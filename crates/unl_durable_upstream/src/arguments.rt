@@ -1,4 +1,5 @@
-//! The command line of the program: a path, then the options of an upstream.
+//! The command line of the program: the path of the database file, then the options of the command `upstream` of
+//! `unl_edge`.
 ghost use Rattle.std.specs.Prelude.{◌≡◌, ℕ, List, IfNone, IfOk, IfSome, map, string_bytes};
 ghost use Rattle.unl_durable_upstream.specs.Arguments.{IsReading, NamesAnotherCommand, bound_of};
 ghost use Rattle.unl_words.specs.Ranges.{IsUpstream};
@@ -10,17 +11,18 @@ use std::mem;
 use unl_usage::{ArgumentsFault, read_arguments};
 use unl_words::{UpstreamArguments, Words, WordsRefusal, read_words};
 
-/// The path of the database file, and the options of the upstream.
+/// The arguments of the program.
 #[derive(Drop)]
 pub struct ProgramArguments {
     /// The path of the database file.
     pub path: String,
-    /// The options of the upstream.
+    /// The values of the options, with defaults for absent ones.
     pub options: UpstreamArguments,
 }
 
 impl ProgramArguments {
-    /// Returns the number of links after which the door closes, or `None` if the options set no limit.
+    /// Returns the number of connections after which the program stops listening, or `None` if the options set no
+    /// limit.
     pub fn bound(&self) -> Option<u64>
         ensures { result ≡ bound_of self.now.options.connections }
     {
@@ -33,11 +35,12 @@ impl ProgramArguments {
     }
 }
 
-/// Reads the arguments of the command line: the path of the database file, then the options of `upstream` as `read_words`
-/// takes them.
+/// Reads the path of the database file and the options of `upstream` from the command line. [`read_words`] describes
+/// the options.
 ///
 /// # Errors
-/// `BadArguments`: there is no path, or `read_arguments` or `read_words` refuses what there is. `Memory`: out of memory.
+/// `BadArguments`: there are no arguments, [`read_arguments`] fails with `Bad`, or the arguments after the path are not
+/// valid options of `upstream`. `Memory`: out of memory.
 pub fn read_program_arguments(rt: &HostRuntime) -> Result<ProgramArguments, ProgramFault>
     ensures reads { (words : List (List ℕ)) × IsReading words result }
     ensures valid { IfOk result (λ arguments. IsUpstream arguments.options) }
@@ -49,7 +52,7 @@ pub fn read_program_arguments(rt: &HostRuntime) -> Result<ProgramArguments, Prog
     }
 }
 
-/// Takes the first argument as the path, and puts the command name `upstream` in its place before the options are read.
+/// Takes the first argument as the path. Replaces it with the command name `upstream`, and then reads the options.
 fn read_path_first(alloc: Global, mut words: Vec<String>) -> Result<ProgramArguments, ProgramFault>
     ensures reads { IsReading (map string_bytes words.items) result }
     ensures valid { IfOk result (λ arguments. IsUpstream arguments.options) }

@@ -1,4 +1,4 @@
-//! Serves an upstream over a database file.
+//! Opens the database file, serves an upstream whose commands are stored in it, and closes the database.
 ghost use Rattle.std.specs.Prelude.{◌≡◌, Ok, Err, IfOk};
 ghost use Rattle.unl_base.specs.Doors.{IsClosedAt};
 ghost use Rattle.unl_base.specs.Faults.{Rose};
@@ -23,23 +23,25 @@ use unl_keeper::{Keeper, SqliteKeeper};
 use unl_upstream::Upstream;
 use unl_usage::report_unopened;
 
-// `connect` and `disconnect` have no contract, so that no proof carries the state of the database.
+// `connect` and `disconnect` have no contract, so that the proofs about their callers don't have to describe the state
+// of the database.
 
 /// Opens the database at a path, or creates it.
 fn connect(system: &HostRuntime, path: &str) -> Result<Connection<FileStore<File>>, Error> {
     Connection::open(system, path)
 }
 
-/// Closes a database. The content of its log is then in its file.
+/// Closes a database. On success the content of its write-ahead log has been moved to the database file.
 fn disconnect<F: Disk + Drop>(connection: Connection<FileStore<F>>) -> Result<(), Error> {
     connection.close()
 }
 
-/// Opens the database at the path of the arguments by `system`, and serves it as [`serve_over`] does. Reports on the error stream
-/// of `rt` why it can't be opened or read.
+/// Opens the database file at the path in the arguments, and serves it as [`serve_over`] does. The file is opened with
+/// `system`; everything else uses `rt`. If the database can't be opened or read, the reason is reported on the error
+/// stream of `rt`.
 ///
 /// # Errors
-/// `File`: the database could not be opened or closed. Others as for [`serve_over`].
+/// `File`: the database could not be opened or closed. All other errors are those of [`serve_over`].
 pub fn serve_file<D: Door, R: Draws, W: Wait + Eprint>(
     system: &HostRuntime,
     rt: &W,
@@ -66,20 +68,23 @@ pub fn serve_file<D: Door, R: Draws, W: Wait + Eprint>(
     }
 }
 
-/// Reports that the commands of the file at `path` can't be read, if serving it `ended` so.
+/// If serving `ended` with the error `Keeper`, reports that the commands in the file at `path` can't be read.
 fn report_keeper<E: Eprint>(rt: &E, path: &str, ended: &Result<u64, ProgramFault>) {
     if let Err(ProgramFault::Keeper) = ended {
         report_unopened(rt, path, &"its table of commands can't be read");
     }
 }
 
-/// Reopens an upstream from a database, listens on the port of the arguments, and serves the links of the door until it is
-/// closed. Each command is in the database before it is acknowledged. Returns how many links were served; the content of the
-/// database's log is then in the file. The word of a draw is the boot number of the upstream.
+/// Reopens an upstream from a database, listens on the port in the arguments, and serves the links of the door until
+/// the door is closed. Each command is in the database before it is acknowledged. At the end the database is closed,
+/// which moves the content of its write-ahead log to the file. Returns how many links were served. The random word of
+/// the first draw is used as the boot number of the upstream, which distinguishes this run of the program from others.
 ///
 /// # Errors
-/// `Row`, `Keeper` and `Door`: as for [`serve_reopened`]. `File`: the links were served, but the database could not be closed.
-/// `Memory`: out of memory, before a link was handed out or while the database was closed.
+/// `Row`: a row of the database is missing, holds no command, or its command is refused. `Keeper`: the keeper, which
+/// reads the rows, failed while the upstream was reopened. `Door`: the door could not listen on the port, or could not
+/// hand out a link. `File`: the links were served, but the database could not be closed. `Memory`: out of memory,
+/// before a link was handed out or while the database was closed.
 pub fn serve_over<F: Disk + Drop, D: Door, R: Draws, W: Wait + Eprint>(
     rt: &W,
     alloc: Global,
@@ -121,8 +126,8 @@ fn serve_database<F: Disk + Drop, D: Door, R: Draws, W: Wait + Eprint>(
     close(served, keeper)
 }
 
-/// Reopens an upstream from a keeper, reports when that begins to fail and when it works again, and serves the links of the
-/// door. Returns the keeper.
+/// Reopens an upstream from a keeper, and serves the links of the door. Reports on the error stream when puts to the
+/// keeper begin to fail, and when they work again. Returns the result and the keeper.
 fn serve_keeper<K: Keeper + Drop, D: Door, R: Draws, W: Wait + Eprint>(
     rt: &W,
     alloc: Global,
@@ -144,10 +149,11 @@ fn serve_keeper<K: Keeper + Drop, D: Door, R: Draws, W: Wait + Eprint>(
     (served, keeper.into_keeper())
 }
 
-/// Closes the database of a keeper, if serving it ended well.
+/// Closes the database of a keeper, if serving succeeded.
 ///
 /// # Errors
-/// That of serving. `File`: the database could not be closed. `Memory`: out of memory while it was closed.
+/// The error of serving, if there was one. `File`: the database could not be closed. `Memory`: out of memory while it
+/// was closed.
 fn close<F: Disk + Drop>(
     served: Result<u64, ProgramFault>,
     keeper: SqliteKeeper<FileStore<F>>,

@@ -17,13 +17,13 @@ pub enum ProgramFault {
     /// The database could not be opened or closed.
     #[error("unl_durable_upstream: {0}")]
     File(sqlite::Error),
-    /// The row with this number, from 1, is missing, or holds no command that is accepted.
+    /// The row with this number, counted from 1, is missing, holds no command, or holds a command that is refused.
     #[error("refused: row {0}")]
     Row(u64),
     /// The keeper failed while the upstream was reopened, and incremented its fault count.
     #[error("unl_durable_upstream: the keeper failed")]
     Keeper,
-    /// The door failed, and incremented its fault count.
+    /// The door could not listen on the port or accept a link, and incremented its fault count.
     #[error("unl_durable_upstream: the door failed")]
     Door,
     /// Out of memory.
@@ -32,7 +32,7 @@ pub enum ProgramFault {
 }
 
 impl ProgramFault {
-    /// Returns the exit code of the program.
+    /// Returns the exit code of the program, a number from 2 to 8 (chosen by this project).
     pub fn code(&self) -> u8
         ensures { result ≡ code_of self.now }
     {

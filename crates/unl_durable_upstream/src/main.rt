@@ -31,8 +31,9 @@ fn main(rt: HostRuntime) -> ExitCode {
     ExitCode::from(exit_code(&ended, printed))
 }
 
-/// Reads the arguments, and serves an upstream over the database at their path until its door is closed. Files are opened by
-/// `system`, sockets by `rt`. Returns how many links were served.
+/// Reads the arguments, and serves an upstream over the database file that they name. Connections are accepted by a
+/// door, and the serving ends when the door closes. Files are opened with `system`, sockets with `rt`. Returns how many
+/// links (accepted connections) were served.
 ///
 /// # Errors
 /// As for `read_program_arguments` and `serve_file`. `Memory`: out of memory.
@@ -60,7 +61,7 @@ fn run<N: Net + Clock + RandomSource + Eprint + Wait + Copy + Drop>(
     }
 }
 
-/// Prints how many links were served, or why the program ended before, and returns whether that succeeded.
+/// Prints how many links were served, or why the program failed. Returns whether printing succeeded.
 fn print_end(rt: &HostRuntime, ended: &Result<u64, ProgramFault>) -> bool {
     let printed = match ended {
         Ok(served) => println!(rt; "connections {served}"),
@@ -69,7 +70,8 @@ fn print_end(rt: &HostRuntime, ended: &Result<u64, ProgramFault>) -> bool {
     printed.is_ok()
 }
 
-/// Returns the exit code of the program.
+/// Returns the exit code of the program: 0 on success, 5 if its last line could not be printed, or the code of the
+/// error.
 fn exit_code(ended: &Result<u64, ProgramFault>, is_printed: bool) -> u8
     ensures { result ≡ exit_code_of ended.now is_printed }
 {

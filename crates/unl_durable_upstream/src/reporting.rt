@@ -6,8 +6,8 @@ use unl_documents::Text;
 use unl_keeper::{KeepRefusal, Keeper};
 use unl_net::Log;
 
-/// Forwards each call to a keeper. Reports on the error stream when the keeper's database begins to fail, and when it works
-/// again. A line that can't be written at once is dropped.
+/// Forwards each call to a keeper. Reports on the error stream when the keeper's puts begin to fail with `Fault`, and
+/// when they succeed again. A line that can't be written at once is dropped.
 #[derive(Drop)]
 pub struct ReportingKeeper<'a, K: Keeper + Drop, E: Eprint> {
     keeper: K,
@@ -39,7 +39,7 @@ impl<'a, K: Keeper + Drop, E: Eprint> ReportingKeeper<'a, K, E> {
         keeper
     }
 
-    /// Reports whether the database works, if that changed.
+    /// Reports whether the database fails or works, if that differs from the last put.
     fn note(&mut self, fails: bool)
         ensures { self.new.keeper ≡ self.old.keeper }
     {
@@ -58,7 +58,7 @@ impl<'a, K: Keeper + Drop, E: Eprint> ReportingKeeper<'a, K, E> {
     }
 }
 
-/// Returns whether a call failed at the database. Running out of memory is no such failure.
+/// Returns whether a call failed because of the database, and not because memory ran out.
 fn is_fault<T: Drop>(outcome: &Result<T, KeepRefusal>) -> bool {
     match outcome {
         Err(KeepRefusal::Fault) => true,

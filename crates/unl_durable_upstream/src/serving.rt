@@ -1,4 +1,4 @@
-//! Reopens an upstream from its keeper, and serves the links of its door.
+//! Creates an upstream from the options, reopens it from its keeper, and serves the links of a door with it.
 ghost use Rattle.std.specs.Prelude.{◌≡◌, true, Err, IfOk, OnErr};
 ghost use Rattle.unl_base.specs.Faults.{Rose};
 ghost use Rattle.unl_durable_upstream.specs.Beginning.{upstream_of};
@@ -40,14 +40,14 @@ pub fn begin(alloc: Global, boot: u64, options: &UpstreamArguments) -> Result<Up
     Ok(up)
 }
 
-/// Reopens an upstream from the rows of its keeper, reports their number and the epoch, listens on a port, and serves the
-/// links of the door one after another until the door is closed. Each command is kept before it is acknowledged. Returns how
-/// many links were served.
+/// Reopens an upstream from the rows of its keeper, prints their number and the epoch to standard error, listens on a
+/// port, and serves the links of the door one after another until the door is closed. Each command is kept before it is
+/// acknowledged. Returns how many links were served.
 ///
 /// # Errors
-/// `Row`: a row of the keeper is missing, or holds no command that is accepted. `Keeper`: the keeper failed while the
-/// upstream was reopened. `Memory`: out of memory while the upstream was reopened. `Door`: the door could not listen on the
-/// port, or could not hand out a link. A keeper that fails while links are served does not end serving.
+/// `Row`: a row of the keeper is missing, holds no command, or its command is refused. `Keeper`: the keeper failed
+/// while the upstream was reopened. `Memory`: out of memory while the upstream was reopened. `Door`: the door could not
+/// listen on the port, or could not hand out a link. A keeper that fails while links are served does not end serving.
 pub fn serve_reopened<K: Keeper, D: Door, R: Draws, W: Wait + Eprint>(
     rt: &W,
     alloc: Global,
