@@ -24,12 +24,12 @@ use Rattle.unl_workers.specs.Accepting.{HandsOut}
 
 -- ---- the door
 
--- what holds on `Ok` holds if the result is one
+-- if a result is `Ok`, what holds of it on `Ok` holds
 pub once_ok : {A E X : Type 0} (result : Result A E) (a : A) → result ≡ Ok a → OnOk result X → X
 once_ok (Ok b) a is x = x
 once_ok (Err e) a is x = absurd (cc is)
 
--- and what holds on `Err` if it is that
+-- if a result is `Err`, what holds of it on `Err` holds
 pub once_err : {A E X : Type 0} (result : Result A E) (e : E) → result ≡ Err e → OnErr result X → X
 once_err (Ok a) e is x = absurd (cc is)
 once_err (Err d) e is x = x
@@ -60,13 +60,13 @@ pub listened_at : (port : ℕ) (could : Bool) (before door : DoorState) → coul
 listened_at port could before door did listens =
     ap (λ (d : DoorState). d.ports) listens ∙ ap (λ (b : Bool). (listening_at port b before).ports) did
 
--- it could not
+-- the door could not listen, so its ports are unchanged
 pub listened_nowhere : (port : ℕ) (could : Bool) (before door : DoorState) → could ≡ false → door ≡ listening_at port could before
     → door.ports ≡ before.ports
 listened_nowhere port could before door didnt listens =
     ap (λ (d : DoorState). d.ports) listens ∙ ap (λ (b : Bool). (listening_at port b before).ports) didnt
 
--- the same of a door that nothing else changed
+-- the door listened once more, at this port, and nothing else changed it
 pub listened_at_last : (port : ℕ) (could : Bool) (before door after : DoorState) → could ≡ true → door ≡ listening_at port could before
     → after ≡ door → ListenedAt port before after
 listened_at_last port could before door after did listens same =
@@ -89,7 +89,7 @@ hands_none port could before after listens unread = record {
   unread = unread;
 }
 
--- so a door that is then closed was closed there
+-- a door that listened at this port, handed out links and is closed now was closed at this port
 pub closes_at : (served port : ℕ) (could : Bool) (before door after : DoorState) → could ≡ true → door ≡ listening_at port could before
     → HandsOut served door after → IsClosed after → IsClosedAt port before after
 closes_at served port could before door after did listens hands closed =
@@ -160,7 +160,7 @@ broken_ends service port served before middle after same hands serves sent close
     ends : EdgeEnds service port WriteFault middle after
     ends = (served, hands, serves, sent, closed)
 
--- no link was handed out, so nothing is to be said of links
+-- if no link was handed out, any statement about handed-out links holds
 pub none_served : {X : Type 0} → 0 < 0 → X
 none_served some = absurd (omega (arith, some))
 
@@ -181,7 +181,7 @@ pub stopped_early : (service : EdgeService) (port : ℕ) (before middle after : 
 stopped_early service port before middle after same hands listened silent =
     subst (λ (scene : Scene). EdgeEnds service port OutOfMemory scene after) (sym same) (inl (hands, listened, silent))
 
--- memory ran out for the line
+-- memory ran out before the last line could be printed
 pub stopped_at_line : (service : EdgeService) (port served : ℕ) (before middle after : Scene) → before ≡ middle
     → HandsLinks served middle after → IsServed service port served middle after → after.output.sent ≡ middle.output.sent
     → IsClosedAt port middle.door.state after.door.state → EdgeEnds service port OutOfMemory before after

@@ -123,7 +123,7 @@ all_fit (token ∷ tokens) are =
 pub few_tokens : (tokens : List (List ℕ)) → are_upstream_tokens tokens ≡ true → length tokens ≤ 8
 few_tokens tokens are = (counted 1 8 tokens (both (has_count 1 8 tokens) (list_all (is_token true) tokens && are_different (map environment_of tokens)) are).0).1
 
--- each of them fits in a line
+-- each of an upstream's tokens fits in a line
 pub tokens_fit : (tokens : List (List ℕ)) → are_upstream_tokens tokens ≡ true → All (λ token. IsTrue (fits_line token)) tokens
 tokens_fit tokens are =
     let parts = both (has_count 1 8 tokens) (list_all (is_token true) tokens && are_different (map environment_of tokens)) are in
@@ -134,13 +134,13 @@ pub texts_differ : (texts : List (List ℕ)) → are_different texts ≡ true �
 texts_differ [] are = tt
 texts_differ (text ∷ texts) are = let parts = others_differ text texts are in (parts.0, texts_differ texts parts.1)
 
--- their environments differ
+-- the environments of an upstream's tokens differ
 pub names_differ : (tokens : List (List ℕ)) → are_upstream_tokens tokens ≡ true → AreDifferent (map environment_of tokens)
 names_differ tokens are =
     let parts = both (has_count 1 8 tokens) (list_all (is_token true) tokens && are_different (map environment_of tokens)) are in
     texts_differ (map environment_of tokens) (both (list_all (is_token true) tokens) (are_different (map environment_of tokens)) parts.1).1
 
--- an empty slot for each of them gives as many places
+-- a board with an empty slot for each of these tokens has as many places as there are tokens
 pub opened_places : (tokens : List (List ℕ)) → length (map place_at (map empty_slot (map environment_of tokens))) ≡ length tokens
 opened_places tokens =
     length-map (map empty_slot (map environment_of tokens)) place_at ∙ length-map (map environment_of tokens) empty_slot ∙ length-map tokens environment_of

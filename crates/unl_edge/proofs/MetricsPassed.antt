@@ -1,4 +1,4 @@
--- The metrics of the workers, as they pass to the turns of the poller.
+-- The metrics that workers handed over are those that the poller's turns took and those that wait.
 use Rattle.std.proofs.Common.{◌≡◌, ◌∙◌, ◌<◌, ◌+◌, ◌-◌, ◌^◌, ℕ, List, [], ◌∷◌, ◌++◌, length, map, Option, Result, Ok, Err}
 use Rattle.std.proofs.Common.{ap, append-nil, append_assoc, arith, refl, subst, sym}
 use Rattle.std.specs.Prelude.{All, IfOk, OnOk, flat_map}
@@ -31,7 +31,7 @@ use Rattle.unl_workers.specs.declared.worker.WorkerSlot.{WorkerSlot}
 
 -- ---- slots with new books
 
--- one more part was split off
+-- the receiver after one more part was split off
 pub less_parts : (first v w : Receiving) → v ≡ record first { parts = v.parts } → w ≡ record v { parts = v.parts - 1 }
     → w ≡ record first { parts = w.parts }
 less_parts first v w kept less = λ i. record {
@@ -51,7 +51,7 @@ books_more {W} {R} first now pool_slots longer pool_slot same more books one =
     (All-push (λ (p : WorkerSlot (EdgeLinkHandler W) R). HasNewBook first p.server) pool_slots pool_slot books
     (record { new = one.new; queue = one.queue ∙ ap (λ (r : Receiving). r.queue) same }))
 
--- so the workers begin with them
+-- the workers of slots with new books begin with new books
 all_new : {W R : Type 0} (coming_of : R → Coming) (receiver : Receiving) (pool_slots : List (WorkerSlot (EdgeLinkHandler W) R))
     → All (λ pool_slot. HasNewBook receiver pool_slot.server) pool_slots
     → All (λ worker. worker.book ≡ new_book) (map (edge_worker coming_of) pool_slots)
@@ -63,7 +63,7 @@ all_new {W} {R} coming_of receiver (pool_slot ∷ pool_slots) books =
 
 -- ---- senders that are taken back
 
--- one more sender was taken back
+-- the receiver after one more sender was taken back
 pub more_parts : (first v w : Receiving) (parts : ℕ) (handed : List Book) → v ≡ record first { parts = v.parts; handed = v.handed }
     → w ≡ record v { parts = parts; handed = handed } → w ≡ record first { parts = w.parts; handed = w.handed }
 more_parts first v w parts handed kept more = λ i. record {
@@ -73,7 +73,7 @@ more_parts first v w parts handed kept more = λ i. record {
   intake = (ap (λ (r : Receiving). r.intake) more ∙ ap (λ (r : Receiving). r.intake) kept) i;
 }
 
--- with what it handed over
+-- the books that this sender handed over are added to those of the senders before
 pub handed_more : {W R : Type 0} (handed now : List Book) (pool_slot : WorkerSlot (EdgeLinkHandler W) R)
     (before rest : List (WorkerSlot (EdgeLinkHandler W) R)) (all : List Book) → handed ++ flat_map handed_at before ≡ all
     → before ≡ pool_slot ∷ rest → now ≡ handed ++ handed_at pool_slot → now ++ flat_map handed_at rest ≡ all
@@ -82,7 +82,7 @@ handed_more {W} {R} handed now pool_slot before rest all so_far steps more =
     ∙ (append_assoc handed (handed_at pool_slot) (flat_map handed_at rest)
     ∙ (ap (λ (list : List (WorkerSlot (EdgeLinkHandler W) R)). handed ++ flat_map handed_at list) (sym steps) ∙ so_far))
 
--- all were taken back
+-- all senders were taken back
 pub counted_all : {W R : Type 0} (first last : Receiving) (rest all : List (WorkerSlot (EdgeLinkHandler W) R))
     → last ≡ record first { parts = last.parts; handed = last.handed } → last.handed ++ flat_map handed_at rest ≡ flat_map handed_at all
     → length rest ≡ 0 → ((waiting : List Book) × SameBooks last.handed (last.intake.taken ++ waiting))
@@ -125,7 +125,7 @@ hand_to coming_of receiver now last before (Ok outcome) same books keeps slots =
     all_hand_to coming_of receiver last before outcome.slots.items (ap (λ (r : Receiving). r.queue) keeps ∙ same) books slots
 hand_to coming_of receiver now last before (Err fault) same books keeps slots = tt
 
--- and have all parts that it has not
+-- the senders have all parts that the receiver doesn't have
 pub parts_back : {W R : Type 0} (coming_of : R → Coming) (now last : Receiving) (before : List (WorkerSlot (EdgeLinkHandler W) R))
     (served : Result (PoolOutcome (EdgeLinkHandler W) R) PoolFault) → now.parts + length before ≡ 18446744073709551616
     → OnOk served (KeepsReceiver now last) → IfOk served (λ outcome. AllZip (ServesSlot ServesAt ReadsOnAt coming_of) before outcome.slots.items)

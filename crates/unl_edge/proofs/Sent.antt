@@ -1,4 +1,4 @@
--- Types are `Send` if their parts are.
+-- A worker's desk and state are `Send` because their parts are.
 use denote.Param.Send.{IsSend, IsSync, sendable}
 use denote.Param.SendFields.{declared_send}
 use denote.RattleType.{RattleType}
@@ -11,11 +11,11 @@ use Rattle.unl_metrics.specs.contracts.book.MetricsBook as MetricsBook
 use Rattle.unl_connection.specs.contracts.served.Served as Served
 use Rattle.unl_refresh.specs.contracts.metrics_sender.MetricsSender as MetricsSender
 
--- a desk, from its reader
+-- a desk is `Send` if its reader is
 pub desk_send : IsSend EdgeReader.the_row → IsSend FreshDesk.the_row
 desk_send reader = declared_send FreshDesk.the_type (reader, tt)
 
--- the state of a worker, from its parts
+-- a worker's state is `Send` if its parts are `Send` and its `Wait` is `Sync`
 pub handler_send : (lifetime : NamedLft) (wait : RattleType) → IsSync wait → IsSend FreshDesk.the_row → IsSend MetricsBook.the_row
     → IsSend (MetricsSender.the_row lifetime) → IsSend Served.the_row → IsSend (EdgeLinkHandler.the_row lifetime wait)
 handler_send lifetime wait shared desk book sender notes =

@@ -1,4 +1,4 @@
--- What happened at the worker slots, as the work of workers.
+-- Lemmas that turn facts about worker slots into facts about the workers of an edge (`EdgeWorker`).
 use Rattle.std.proofs.Common.{◌≡◌, ◌≤◌, ◌+◌, ◌∙◌, ℕ, zero, suc, List, [], ◌∷◌, ◌++◌, length, map, Option, Some, Result, Ok, Err}
 use Rattle.std.proofs.Common.{ap, arith, refl, subst, sym}
 use Rattle.std.specs.Prelude.{All, IfSome, OnOk}
@@ -64,7 +64,7 @@ served_links coming_of edition installs before after start attends =
     (serving after.server (coming_of after.draws)) start attends.served in
     ((after.links, links.0), known_after edition installs after.server.desk.reader links.1)
 
--- each of them
+-- each slot that was served, and what its reader knows after it
 pub all_served_links : {W R : Type 0} (coming_of : R → Coming) (known : Knowledge BoardAt Install) (before after : List (WorkerSlot (EdgeLinkHandler W) R))
     → All (λ pool_slot. HasLearned known pool_slot.server.desk.reader) before → AllZip (ServesSlot ServesAt ReadsOnAt coming_of) before after
     → AllZip (Works known.opening known.installs) (map (edge_worker coming_of) before) (map (edge_worker coming_of) after)
@@ -83,7 +83,7 @@ all_served_links {W} {R} coming_of known (first ∷ before) (last ∷ after) lea
           (map (edge_worker coming_of) after) one.1 others.1,
     )
 
--- what their readers have learned
+-- what the readers of the slots have learned
 pub all_learned : {W R : Type 0} (coming_of : R → Coming) (known : Knowledge BoardAt Install) (pool_slots : List (WorkerSlot (EdgeLinkHandler W) R))
     → All (λ pool_slot. HasLearned known pool_slot.server.desk.reader) pool_slots
     → All (λ worker. length known.installs ≤ learned_front_of worker.reader) (map (edge_worker coming_of) pool_slots)
@@ -93,7 +93,7 @@ all_learned {W} {R} coming_of known (pool_slot ∷ pool_slots) learned =
     (All-head (λ (p : WorkerSlot (EdgeLinkHandler W) R). HasLearned known p.server.desk.reader) pool_slot pool_slots learned).least
     (all_learned coming_of known pool_slots (All-tail (λ (p : WorkerSlot (EdgeLinkHandler W) R). HasLearned known p.server.desk.reader) pool_slot pool_slots learned))
 
--- and the opening board of that
+-- the opening board that the readers of the slots know
 pub all_open : {W R : Type 0} (coming_of : R → Coming) (known : Knowledge BoardAt Install) (pool_slots : List (WorkerSlot (EdgeLinkHandler W) R))
     → All (λ pool_slot. HasLearned known pool_slot.server.desk.reader) pool_slots
     → All (λ worker. (seen_by worker.reader).opening ≡ known.opening) (map (edge_worker coming_of) pool_slots)
@@ -113,7 +113,7 @@ begins_shared known reported reader shared said =
     subst (λ (o : Option (Knowledge BoardAt Install)). IfSome o (λ list. list ≡ shared_knowledge known)) said.1 shared in
     subst (λ (list : Knowledge BoardAt Install). StartsReader list.opening list.installs reader) same said.2
 
--- the installs that they begin with
+-- the installs that the readers of the slots begin with
 pub all_begin : {W R : Type 0} (coming_of : R → Coming) (known : Knowledge BoardAt Install) (pool_slots : List (WorkerSlot (EdgeLinkHandler W) R))
     → All (λ pool_slot. HasLearned known pool_slot.server.desk.reader) pool_slots
     → All (λ worker. StartsReader known.opening known.installs worker.reader) (map (edge_worker coming_of) pool_slots)
@@ -123,7 +123,7 @@ all_begin {W} {R} coming_of known (pool_slot ∷ pool_slots) learned =
     (All-head (λ (p : WorkerSlot (EdgeLinkHandler W) R). HasLearned known p.server.desk.reader) pool_slot pool_slots learned).begins
     (all_begin coming_of known pool_slots (All-tail (λ (p : WorkerSlot (EdgeLinkHandler W) R). HasLearned known p.server.desk.reader) pool_slot pool_slots learned))
 
--- what their readers see
+-- the lists and boards that the readers of the slots see are in order
 pub all_ordered : {W R : Type 0} (coming_of : R → Coming) (pool_slots : List (WorkerSlot (EdgeLinkHandler W) R))
     → All (λ worker. SeesInOrder worker.reader) (map (edge_worker coming_of) pool_slots)
 all_ordered coming_of [] = All-nil (λ (worker : EdgeWorker). SeesInOrder worker.reader)
@@ -131,7 +131,7 @@ all_ordered {W} {R} coming_of (pool_slot ∷ pool_slots) =
     All-cons (λ (worker : EdgeWorker). SeesInOrder worker.reader) (edge_worker coming_of pool_slot) (map (edge_worker coming_of) pool_slots)
     (sees_in_order pool_slot.server.desk.reader pool_slot.server.desk.steady) (all_ordered coming_of pool_slots)
 
--- one more slot has learned
+-- one more slot whose reader has learned what is known
 pub learned_more : {W R : Type 0} (known now : Knowledge BoardAt Install) (pool_slots longer : List (WorkerSlot (EdgeLinkHandler W) R)) (pool_slot : WorkerSlot (EdgeLinkHandler W) R)
     → now ≡ known → longer ≡ pool_slots ++ pool_slot ∷ [] → All (λ pool_slot. HasLearned known pool_slot.server.desk.reader) pool_slots → HasLearned now pool_slot.server.desk.reader
     → All (λ pool_slot. HasLearned known pool_slot.server.desk.reader) longer
@@ -140,13 +140,13 @@ learned_more {W} {R} known now pool_slots longer pool_slot same more learned one
     (All-push (λ (p : WorkerSlot (EdgeLinkHandler W) R). HasLearned known p.server.desk.reader) pool_slots pool_slot learned
     (subst (λ (k : Knowledge BoardAt Install). HasLearned k pool_slot.server.desk.reader) same one))
 
--- the readers after the first are of its origin
+-- if a list of readers has the writer's origin, so have those after the first
 pub others_of : (known : Knowledge BoardAt Install) (readers rest : List EdgeReader) (reader : EdgeReader) → readers ≡ reader ∷ rest
     → All (IsOfOrigin known) readers → All (IsOfOrigin known) rest
 others_of known readers rest reader steps all =
     All-tail (IsOfOrigin known) reader rest (subst (λ (rs : List EdgeReader). All (IsOfOrigin known) rs) steps all)
 
--- and the others are new too
+-- if a list of readers is new, so are those after the first
 pub others_new : (readers rest : List EdgeReader) (reader : EdgeReader) → readers ≡ reader ∷ rest → All IsNewReader readers → All IsNewReader rest
 others_new readers rest reader steps all =
     All-tail IsNewReader reader rest (subst (λ (rs : List EdgeReader). All IsNewReader rs) steps all)
@@ -170,7 +170,7 @@ work_concurrently coming_of known before after workers many learned all =
 
 -- ---- what the door handed out
 
--- as many links as the pool says
+-- the door handed out as many links as the pool says
 pub accepted_so : {S R : Type 0} (served : Result (PoolOutcome S R) PoolFault) (result : Result AcceptOutcome PoolFault)
     (before after : DoorState) → result ≡ accepted_in served
     → AcceptedIn (λ (outcome : PoolOutcome S R). outcome.accepted) served before after
@@ -180,7 +180,7 @@ accepted_so (Ok outcome) result before after is accepts =
 accepted_so (Err fault) result before after is accepts =
     subst (λ (r : Result AcceptOutcome PoolFault). AcceptedIn (λ (accepted : AcceptOutcome). accepted) r before after) (sym is) accepts
 
--- and it failed, or a thread couldn't be started, only if the pool says so
+-- the door failed, or a thread couldn't be started, only if the pool says so
 pub caused_so : {S R : Type 0} (served : Result (PoolOutcome S R) PoolFault) (result : Result AcceptOutcome PoolFault)
     (door door_after threads threads_after : ℕ) → result ≡ accepted_in served
     → HasCauses (λ (outcome : PoolOutcome S R). outcome.accepted) served door door_after threads threads_after

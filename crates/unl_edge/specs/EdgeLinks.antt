@@ -1,4 +1,5 @@
--- Each link that the door of an edge handed out was served once, by one of the workers.
+-- Each link (a connection) that the door (the listener) of an edge handed out was served once, by one of the workers. The
+-- opening board is the board in `edition`; the installs are the updates that it got afterwards.
 use Rattle.std.specs.Prelude.{◌≡◌, ℕ, List, [], ◌∷◌, Option, flat_map, length}
 use Rattle.unl_base.specs.Doors.{DoorState}
 use Rattle.unl_core.specs.declared.board.Install.{Install}
@@ -25,7 +26,8 @@ ServesShares edition installs (links ∷ shares) [] ended = ⊥
 ServesShares edition installs (links ∷ shares) (before ∷ begun) [] = ⊥
 
 -- The door handed out `count` links. Each was served once, by one of the workers, from the state in which it was handed out, and
--- no other link was served. Each answer on each link was over the opening board after a list that starts with these installs.
+-- no other link was served. Each answer on each link was given over the board that results from the opening board by a list of
+-- installs that starts with `installs`.
 pub record EachLinkServed
     (edition : Option BoardAt) (installs : List Install) (door door_after : DoorState) (count : ℕ)
     (begun ended : List EdgeWorker) : Type 0 where
@@ -43,7 +45,8 @@ pub record WorkOnEachLink
   pub work : WorkConcurrently workers edition installs
   pub each : EachLinkServed edition installs door door_after count work.begun work.ended
 
--- The same, while later turns were made. The metrics that the workers handed over are those that the turns took and those that wait.
+-- Workers served links concurrently, each link of the door once, while the poller made further turns. Each metrics book that the
+-- workers handed over was either taken by a turn or still waits to be taken.
 pub record WorkDuringTurns
     (workers : ℕ) (edition : Option BoardAt) (installs : List Install) (duty : Duty) (before after : PollState)
     (door door_after : DoorState) (count : ℕ) : Type 0 where
@@ -52,8 +55,8 @@ pub record WorkDuringTurns
   pub turns : PollsOn duty (refreshing before no_intake) (refreshing after intake)
   pub metrics : ConservesMetrics links.work.begun links.work.ended intake.taken
 
--- An edge service ran, and its workers served each link of the door once. The metrics that they handed over are those that the turns of the
--- poller took and those that wait.
+-- An edge service ran, and its workers served each link of the door once. Each metrics book that they handed over was either taken
+-- by a turn of the poller or still waits to be taken.
 pub record ServesEachLink (service : EdgeService) (peer peer_after : PeerView) (door door_after : DoorState) (count : ℕ) : Type 0 where
   pub runs : RunsService service peer peer_after
   pub each : EachLinkServed service.edition runs.installs door door_after count runs.work.begun runs.work.ended

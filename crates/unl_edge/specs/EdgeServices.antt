@@ -1,4 +1,5 @@
--- How an edge serves links concurrently, after its first turn.
+-- How an edge serves links concurrently, after its first turn. In a turn, the poller makes one request to the upstream for each slot.
+-- An install is one change of the board. The front of a board is the number of installs that led to it.
 use Rattle.std.specs.Prelude.{◌≡◌, ◌≤◌, ℕ, zero, suc, List, [], All, length, map, Option, Some}
 use Rattle.std.specs.List.{AllZip}
 use Rattle.unl_core.specs.Board.{empty_slot}
@@ -35,7 +36,8 @@ pub record EdgeService : Type 0 where
 abbrev pub opened : Board → Installed
 opened board = record { places = map place_at board.slots; front = 0; book = board.book }
 
--- the board of a boot number and a host: an empty slot for each of the upstream's tokens, and no book
+-- the board of a boot number (a random number, drawn at each start) and a host: an empty slot for each of the upstream's tokens, and
+-- no book
 abbrev pub begun_board : ℕ → List ℕ → List (List ℕ) → Board
 begun_board boot host upstream_tokens =
     record { boot = boot; host = host; generation = 0; book = []; slots = map empty_slot (map environment_of upstream_tokens) }
@@ -71,9 +73,11 @@ abbrev pub edge_worker : {W R : Type 0} → (R → Coming) → WorkerSlot (EdgeL
 edge_worker coming_of pool_slot =
     record { reader = pool_slot.server.desk.reader; book = book_of pool_slot.server; coming = coming_of pool_slot.draws }
 
--- a worker served this link, and each of its answers was over the opening board after a list that starts with these installs
+-- A worker served this link. It computed each of its answers from the opening board after a list of installs
+-- that starts with `installs`.
 pub record WorkerServes
-    (edition : Option BoardAt) (installs : List Install) (before : EdgeWorker) (link link_after : LinkView) (after : EdgeWorker) : Type 0 where
+    (edition : Option BoardAt) (installs : List Install) (before : EdgeWorker) (link link_after : LinkView)
+    (after : EdgeWorker) : Type 0 where
   pub served : ServesOver before.reader before.book before.coming link link_after after.reader after.book after.coming
   pub over : All (NotedAfter edition installs after.reader) served.ones
 
@@ -93,10 +97,10 @@ WorkerServesLinks edition installs (suc n) before after =
 abbrev pub Works : Option BoardAt → List Install → EdgeWorker → EdgeWorker → Type 0
 Works edition installs before after = (links : ℕ) × WorkerServesLinks edition installs links before after
 
--- `workers` workers served links concurrently, over what was published after this board. Each began with exactly these installs,
--- which it had learned before its first link, and each of its answers was over the board after a list that starts with them. The list
--- that each saw is orderly (see `SeesInOrder` and `KnowsOrderly` in unl_edge_state). No board that it knows has an older version at a
--- slot than one at a smaller front.
+-- `workers` workers served links concurrently. Before its first link, each worker knew the opening board `edition` and exactly the
+-- installs `installs`. It computed each answer from the opening board after a list of installs that starts with `installs`. The list
+-- that each worker saw is orderly: each version in it results from a batch that applies to the slot's version before. No board that a
+-- worker knows has an older version at a slot than a board that it knows at a smaller front.
 pub record WorkConcurrently (workers : ℕ) (edition : Option BoardAt) (installs : List Install) : Type 0 where
   pub begun : List EdgeWorker
   pub ended : List EdgeWorker
@@ -109,8 +113,9 @@ pub record WorkConcurrently (workers : ℕ) (edition : Option BoardAt) (installs
   pub ordered : All (λ worker. SeesInOrder worker.reader) ended
 
 -- The upstream was polled. Each exchange of the first turn had its request and its effect, whether it got a reply or the peer failed.
--- Later turns: see `TurnEnds`. There is a list of installs that leads to what the first turn installed. After that turn the workers
--- began with these installs, and each answer on each link was over the opening board after a list that starts with them.
+-- Each later turn was made, or ended because memory ran out, unless the front was near its maximum or there were too few places.
+-- `installs` leads from the opening board to what the first turn installed. After that turn the workers began with `installs`, and each
+-- answer on each link was computed from the opening board after a list of installs that starts with them.
 pub record RunsService (service : EdgeService) (peer peer_after : PeerView) : Type 0 where
   pub first : Installed
   pub installs : List Install

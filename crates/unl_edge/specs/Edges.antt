@@ -18,7 +18,8 @@ use Rattle.unl_workers.specs.declared.acceptor.AcceptOutcome.{AcceptOutcome}
 use Rattle.unl_workers.specs.declared.pool.PoolOutcome.{PoolOutcome}
 use Rattle.unl_workers.specs.declared.pool.PoolFault.{PoolFault}
 
--- If `Connects 0` holds from any earlier state to this one, it also holds to the later one.
+-- Whatever the first state of the peer was: if `Connects 0` holds from it to the state with `replies` and `faults`, it also holds from it
+-- to the later state, with `replies_after` and `faults_after`.
 abbrev pub KeepsConnects :
     (replies : Option (List (List ℕ))) (faults : ℕ) (replies_after : Option (List (List ℕ))) (faults_after : ℕ) → Type 0
 KeepsConnects replies faults replies_after faults_after =
@@ -29,12 +30,12 @@ KeepsConnects replies faults replies_after faults_after =
 abbrev pub AsksPeer : ℕ → Scene → Scene → Type 0
 AsksPeer least before after = Connects least before.peer.state.replies before.peer.faults after.peer.state.replies after.peer.faults
 
--- what the door handed out, or why no link was accepted
+-- the outcome of accepting links in the result of a worker pool, or the fault that kept the pool from running
 abbrev pub accepted_in : {S R : Type 0} → Result (PoolOutcome S R) PoolFault → Result AcceptOutcome PoolFault
 accepted_in (Ok outcome) = Ok outcome.accepted
 accepted_in (Err fault) = Err fault
 
--- `served` of the links to come were handed out, none came back (the worker that served a link drops it), and nothing of the input
+-- The door handed out its next `served` links. None was given back to it: the worker that serves a link drops it. Nothing of the input
 -- was read.
 pub record HandsLinks (served : ℕ) (before after : Scene) : Type 0 where
   pub given : after.door.state.given ≡ before.door.state.given + served
@@ -50,21 +51,22 @@ IsServed service port served before after = AsksPeer (length service.opening.pla
     × ServesEachLink service (peer_view before.peer.state before.peer.faults) (peer_view after.peer.state after.peer.faults)
     (listening_at port true before.door.state) after.door.state served
 
--- Memory ran out before the first link was handed out, and nothing was sent. The door listened at no other port than this one.
+-- Memory ran out before the first link was handed out, and nothing was sent. The door listened once, at this port, or not at all.
 abbrev pub StopsEarly : ℕ → Scene → Scene → Type 0
 StopsEarly port before after =
     HandsLinks 0 before after × ListenedOnlyAt port before.door.state after.door.state × (after.output.sent ≡ before.output.sent)
 
--- Memory ran out for the last line once the door was closed, and nothing was sent.
+-- The door was closed, and then memory ran out before the last line could be printed. Nothing was sent.
 abbrev pub StopsAtLine : EdgeService → ℕ → Scene → Scene → Type 0
 StopsAtLine service port before after =
     (served : ℕ) × HandsLinks served before after × IsServed service port served before after
     × (after.output.sent ≡ before.output.sent) × IsClosedAt port before.door.state after.door.state
 
--- How an edge ends, with a door that is to listen at this port. The door listened there, once more than before, and was closed, and
--- the last line or a prefix of it was sent; before that, the upstream was asked for the book and for each slot at least once, and then
--- each link was served once. Or the door failed, a thread couldn't be started, or memory ran out, and nothing was sent. If links were
--- handed out before, the upstream was asked then too, and each of them was served once.
+-- How an edge ends whose door is to listen at this port.
+-- `Closed`: the door listened once at the port and was closed. The edge served each link once (`IsServed`) and sent the last line.
+-- `WriteFault`: the same, but a prefix of the last line was sent, because the output failed.
+-- `DoorFault`: the door failed, or a thread couldn't be started. Nothing was sent. If links were handed out, `IsServed` holds.
+-- `OutOfMemory`: memory ran out before the first link, or when the last line was to be printed. Nothing was sent.
 abbrev pub EdgeEnds : EdgeService → ℕ → ServingEnd → Scene → Scene → Type 0
 EdgeEnds service port Closed before after =
     (served : ℕ) × HandsLinks served before after × IsServed service port served before after

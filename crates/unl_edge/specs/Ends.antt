@@ -79,7 +79,7 @@ LoadEnds seed count (Err load.Memory) old new = new ≡ old
 abbrev pub bad_arguments_line : List ℕ
 bad_arguments_line = codes "unl_edge: bad words\n"
 
--- It was sent, or a prefix of it; or memory ran out before the arguments were read, and nothing was sent.
+-- The line for bad arguments was sent, or a prefix of it; or memory ran out before the arguments were read, and nothing was sent.
 abbrev pub PrintsBadArguments : ArgumentsEnd → Option (List ℕ) → Option (List ℕ) → Type 0
 PrintsBadArguments words.Bad old new = Sends old bad_arguments_line new
 PrintsBadArguments words.WriteFault old new = SendsPrefix old bad_arguments_line new
@@ -116,8 +116,8 @@ Ends (Ok (Load seed count)) status before after =
 Ends (Err Bad) status before after = Ended arguments_status (λ end. PrintsBadArguments end before.output.sent after.output.sent) status
 Ends (Err Memory) s before after = s ≡ status.OutOfMemory
 
--- The state of each end that the command doesn't use is as before, and so is the count of its faults. If memory ran out before
--- the arguments were read, nothing changed.
+-- Each endpoint that the command doesn't use is unchanged: its state and its fault count. If memory ran out before the arguments were
+-- read, no endpoint changed.
 abbrev pub LeavesAlone : WordsReading → Scene → Scene → Type 0
 LeavesAlone (Ok Replay) before after = ChangesStreams before after
 LeavesAlone (Ok (Check now word)) before after = ChangesStreams before after
@@ -133,8 +133,8 @@ LeavesAlone (Err Memory) before after = after ≡ before
 abbrev pub Exits : ℕ → (Status → Type 0) → Type 0
 Exits code EndsSo = (status : Status) × (code ≡ code_of status) × EndsSo status
 
--- The code of an input or output fault is returned only if that endpoint failed; that of a door fault only if the door failed or no job
--- could be started; that of a keeper fault only if the maker's fault count rose, and then no link was handed out.
+-- What each exit code of a fault implies. Code 4 (input) or 5 (output): that endpoint failed. Code 7 (door): the door failed, or a job
+-- couldn't be started. Code 8 (the store of an upstream's commands): the fault count of `keep` rose, and the door gave no link.
 pub record CodeHasCauses (code : ℕ) (before after : Scene) : Type 0 where
   pub read : code ≡ 4 → Rose before.input.faults after.input.faults
   pub write : code ≡ 5 → Rose before.output.faults after.output.faults
@@ -149,7 +149,7 @@ explained_status (Ok line) = status.Done
 explained_status (Err refusal) = status.Refused
 
 -- The exit code is determined by the arguments and the input. Bad arguments determine it alone. For an upstream this holds only
--- if the fault count of its maker of keepers didn't rise.
+-- if the fault count of `keep` didn't rise.
 abbrev pub IsDecided : WordsReading → ℕ → Scene → Scene → Type 0
 IsDecided (Ok Replay) code before after = IfSome before.input.left (λ bytes. code ≡ code_of (ending_status (replay_of bytes).ending))
 IsDecided (Ok (Check now word)) code before after =

@@ -1,4 +1,5 @@
--- The lines of an upstream's input; each command is kept before it is published.
+-- The effects of the lines of an upstream's input. Each line holds one command. The keeper stores each accepted command as a row
+-- (the command is kept) before the upstream publishes it.
 use Rattle.std.specs.Prelude.{◌≡◌, ℕ, ◌+◌, List, [], ◌∷◌, ◌++◌, length, map, codes, Option, option_map, Result, Ok, Err}
 use Rattle.unl_documents.specs.FaultText.{fault_text}
 use Rattle.unl_documents.specs.Reading.{Reading}
@@ -12,13 +13,14 @@ use Rattle.unl_upstream.specs.declared.refusal.KeepCommandRefusal.{KeepCommandRe
 use Rattle.unl_upstream.specs.declared.refusal.KeepCommandRefusal.TheVariants.{NoSuchEnvironment, NoSuchFeature}
 use Rattle.unl_upstream.specs.declared.refusal.KeepCommandRefusal.TheVariants.{NoSuchSegment, TooMany, KeeperFull, KeeperFault, Memory}
 
--- the state while lines are taken: the upstream, the number of its keeper's rows, and the commands in them, if observable
+-- the state between two lines: the upstream, the number of its keeper's rows, and the commands in the rows, if contracts can observe
+-- them
 pub record KeptLines : Type 0 where
   pub up : UpstreamState
   pub count : ℕ
   pub commands : Option (List Command)
 
--- the same for an upstream and its keeper
+-- this state of an upstream and its keeper
 abbrev pub kept_lines_of : KeptState → KeptLines
 kept_lines_of state = record { up = state.up; count = state.keeper.count; commands = kept_commands state.keeper }
 
@@ -62,7 +64,8 @@ kept_line kept_lines line = kept_by kept_lines (command_in line)
 abbrev pub keeping : Taking KeptLines
 keeping number kept_lines line = kept_line kept_lines line
 
--- The lines hold these commands, one each. All are accepted and lead to `after`, and they are kept after the earlier ones.
+-- Each line holds one command. All commands are accepted, they lead from `before` to `after`, and they are kept after the earlier
+-- commands.
 pub record SpellKept (before : KeptLines) (spelling : List (List ℕ)) (after : KeptLines) : Type 0 where
   pub commands : List Command
   pub spelled : map command_in spelling ≡ map Ok commands

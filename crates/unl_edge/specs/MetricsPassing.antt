@@ -1,12 +1,12 @@
--- What the workers of an edge handed over to the turns of its poller.
+-- The metrics books that the workers of an edge handed over, through a queue, to the turns of its poller.
 use Rattle.std.specs.Prelude.{◌≡◌, List, ◌++◌, All, flat_map}
 use Rattle.unl_edge.specs.EdgeServices.{EdgeWorker}
 use Rattle.unl_edge.specs.WorkerBooks.{new_book}
 use Rattle.unl_metrics.specs.Book.{Book}
 use Rattle.unl_refresh.specs.Handovers.{SameBooks}
 
--- Each worker began with a new book. The books that the workers handed over are those that the turns took and those that wait, each
--- once.
+-- Each worker began with a new book. The books that the workers handed over are those that the turns took and those still in
+-- the queue, each once.
 pub record ConservesMetrics (begun ended : List EdgeWorker) (taken : List Book) : Type 0 where
   pub begins : All (λ worker. worker.book ≡ new_book) begun
   pub waiting : List Book

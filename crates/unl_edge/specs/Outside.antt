@@ -1,4 +1,4 @@
--- The endpoints that the program creates from its arguments before it runs.
+-- What the program's arguments ask for: a database, a bound on connections, the address of a server, an interval, and threads.
 use Rattle.std.specs.Prelude.{ℕ, ◌*◌, Bool, false, List, [], Option, Some, None, nat_lt, option_map, unwrap_or, if◌then◌else◌}
 use Rattle.unl_words.specs.declared.words.Words.{Words}
 use Rattle.unl_words.specs.declared.words.Words.TheVariants.{Replay, Check, Edge, Explain, Follow, Load, Upstream}
@@ -17,7 +17,7 @@ asks_for_database (Load seed count) = false
 abbrev pub if_any : ℕ → Option ℕ
 if_any count = if nat_lt 0 count then Some count else None
 
--- the number of links after which the door closes, if the arguments set one
+-- the number of connections after which the listening port is closed, if the arguments set one
 abbrev pub bound_asked : Words → Option ℕ
 bound_asked Replay = None
 bound_asked (Check now word) = None
@@ -27,7 +27,7 @@ bound_asked (Follow replica) = None
 bound_asked Explain = None
 bound_asked (Load seed count) = None
 
--- the address of the peer, empty if the arguments name none
+-- the `HOST:PORT` of the server to poll, empty if the arguments name none
 abbrev pub address_asked : Words → List ℕ
 address_asked Replay = []
 address_asked (Check now word) = []
@@ -37,7 +37,7 @@ address_asked (Follow replica) = replica.upstream
 address_asked Explain = []
 address_asked (Load seed count) = []
 
--- the nanoseconds between two turns, if the arguments set an interval
+-- the nanoseconds between two polls of the server, if the arguments set an interval
 abbrev pub interval_asked : Words → Option ℕ
 interval_asked Replay = None
 interval_asked (Check now word) = None
@@ -47,7 +47,7 @@ interval_asked (Follow replica) = Some (replica.interval * 1000000000)
 interval_asked Explain = None
 interval_asked (Load seed count) = None
 
--- the number of links served at once on threads other than the accepting one
+-- the number of threads that serve connections, besides the thread that accepts them
 abbrev pub workers_asked : Words → ℕ
 workers_asked Replay = 0
 workers_asked (Check now word) = 0

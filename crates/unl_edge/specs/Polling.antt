@@ -7,15 +7,15 @@ use Rattle.unl_refresh.specs.MetricsQueues.{Intake, Merges, Receiving, no_intake
 use Rattle.unl_refresh.specs.Turns.{Duty, MakesTurn, PollState, StopsInTurn, poll_state}
 use Rattle.unl_workers.specs.Periodic.{Turns}
 
--- What a poller works with is the same.
+-- The fixed parameters of a poller are unchanged: its tokens, its slots and their request parameters, and its upstream.
 pub record SameWork (before after : Duty) : Type 0 where
   pub known : after.known ≡ before.known
   pub slots : after.slots ≡ before.slots
   pub slot_pollers : after.slot_pollers ≡ before.slot_pollers
   pub upstream : after.upstream ≡ before.upstream
 
--- Unless the front is near its maximum or the poller has more slots than there are places: a turn was made, or it ended because
--- memory ran out.
+-- A turn was made, or it stopped because memory ran out. Nothing is claimed if the front (the number of publications) is so near its
+-- maximum that the turn could exceed it, or if the poller has more slots than there are places.
 abbrev pub TurnEnds : Duty → PollState → PollState → Type 0
 TurnEnds duty before after =
     before.installed.front + duty.slots + 1 < 2 ^ 64 - 1 → duty.slots ≤ length before.installed.places
@@ -46,9 +46,10 @@ pub record PollsOn (duty : Duty) (before after : Refreshing) : Type 0 where
   pub turns : ℕ
   pub made : Turns (LaterTurn duty) turns before after
 
--- The first turn was made from `opening`, with the poller's tags and metrics; `first` is what was installed after it. Later turns
--- follow; before them nothing was taken from the workers. What these turns sent is all that the peer was sent, as far as `TurnEnds`
--- says: it says nothing of a turn near the front's maximum, or of one with more slots than places, and memory may run out in one.
+-- All turns of a poller. The first begins with the installed state `opening`, the poller's tags and metrics, and the peer's state `peer`.
+-- It ends with the installed state `first`. Then the later turns follow. No books were taken from the workers before them. The last turn
+-- ends with the peer's state `peer_after`, so nothing was sent to the peer outside of these turns. Each later turn has the effect
+-- `TurnEnds`, with the exceptions named there.
 pub record PollsUpstream (duty : Duty) (opening : Installed) (peer : PeerView) (first : Installed) (peer_after : PeerView) : Type 0 where
   pub begun : PollState
   pub installed : begun.installed ≡ first

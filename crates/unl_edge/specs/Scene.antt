@@ -16,18 +16,20 @@ pub record OutputEnd : Type 0 where
   pub sent : Option (List ℕ)
   pub faults : ℕ
 
--- the door: the ports that it listened at, what it handed out and got back, and the count of its faults
+-- the door: the ports that it listened at, the links that it handed out and took back, and the count of its faults
 pub record DoorEnd : Type 0 where
   pub state : DoorState
   pub faults : ℕ
 
--- the peer: its connection, what was sent on this one and on each before, what the next ones give, and the count of its faults
+-- the peer: whether it is connected, the bytes still to be read, the bytes sent on this connection and on each earlier one, the bytes
+-- that each later connection gives to its reader, and the count of its faults
 pub record PeerEnd : Type 0 where
   pub state : PeerState
   pub faults : ℕ
 
--- all of these, the draws to come, the turns left of the pace, the count of the spawner's faults, and the maker of keepers: the rows
--- of the keeper that it got back last, and the count of its faults
+-- the state of all endpoints: the four above, the draws to come (each a time and a random word), the number of turns that the pace still
+-- has, the count of the spawner's faults, and the maker of keepers (the rows of the keeper that it got back last, and the count of the
+-- maker's faults)
 pub record Scene : Type 0 where
   pub input : InputEnd
   pub output : OutputEnd
@@ -42,7 +44,7 @@ pub record Scene : Type 0 where
 abbrev pub ServingFailed : Scene → Scene → Type 0
 ServingFailed before after = Rose before.door.faults after.door.faults ⊎ Rose before.spawner after.spawner
 
--- ---- what a command leaves alone
+-- ---- the endpoints that a command leaves unchanged
 
 -- only the input and the output changed
 abbrev pub ChangesStreams : Scene → Scene → Type 0

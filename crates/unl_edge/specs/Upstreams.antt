@@ -1,5 +1,5 @@
--- How an upstream ends: it is reopened on a keeper, takes the commands of its input's lines, and then serves the links of its
--- door.
+-- How a run of an upstream ends. First the upstream is reopened: it applies the commands that its keeper has stored, one in each row.
+-- Then it takes the commands of its input's lines. Then it serves the links (connections) that its door (a listener) hands out.
 use Rattle.std.specs.Prelude.{◌≡◌, ◌≢◌, ◌⊎◌, ℕ, List, [], ◌++◌, codes, decimal, Option, Some, IfSome, Result, Ok, Err}
 use Rattle.std.specs.Prelude.{option_and_then, option_map}
 use Rattle.unl_base.specs.Doors.{ServedOnlyAt, DoorState, IsClosedAt}
@@ -41,7 +41,7 @@ use Rattle.unl_words.specs.declared.words.UpstreamArguments.{UpstreamArguments}
 abbrev pub connections_line : ℕ → List ℕ
 connections_line served = codes "connections " ++ (decimal served ++ codes "\n")
 
--- the line printed for a row that is refused
+-- the line printed if reopening fails because of the keeper's row at `place`
 abbrev pub row_line : ℕ → List ℕ
 row_line place = codes "refused: row " ++ (decimal place ++ codes "\n")
 
@@ -63,7 +63,7 @@ pub record UpstreamFacing : Type 0 where
 abbrev pub upstream_facing : Option (List ℕ) → DoorState → Coming → UpstreamFacing
 upstream_facing sent door coming = record { sent = sent; door = door; coming = coming }
 
--- these endpoints of the scene
+-- the bytes sent, the door and the draws of the scene
 abbrev pub facing_of : Scene → UpstreamFacing
 facing_of scene = upstream_facing scene.output.sent scene.door.state scene.draws
 
@@ -74,14 +74,14 @@ pub record IsUntouched (before after : UpstreamFacing) : Type 0 where
 
 -- ---- the links
 
--- `served` links were served by an upstream and its keeper. Whether or not the door's links are observable, the upstream and
--- keeper changed only by what was to be kept of the links.
+-- `served` links were served by an upstream and its keeper. Whether or not the door's links are observable, the upstream and the
+-- keeper changed only by attempts to keep commands.
 pub record ServesUpstreamLinks (state last : KeptState) (before after : UpstreamFacing) (served : ℕ) : Type 0 where
   pub serves_links : ServesKeptLinks (linking state before.coming before.door) (linking last after.coming after.door) served
   pub carries : AttemptsPreserve state last
 
--- How serving ends at a door that is to listen at this port: the door listened there, once more than before, and was closed, and the
--- last line was sent, or a prefix of it, or nothing if out of memory; or the door failed.
+-- How serving ends at a door that is to listen at this port. Unless the door failed, it listened there once more than before, and was
+-- closed, and the connections line was sent: all of it, a prefix if a write failed, or nothing if memory ran out.
 abbrev pub UpstreamLinksEnd : KeptState → ℕ → ServingEnd → KeptState → UpstreamFacing → UpstreamFacing → Type 0
 UpstreamLinksEnd state port Closed last before after =
     (served : ℕ) × ServesUpstreamLinks state last before after served × Sends before.sent (connections_line served) after.sent
@@ -95,9 +95,10 @@ UpstreamLinksEnd state port DoorFault last before after =
 UpstreamLinksEnd state port OutOfMemory last before after =
     (served : ℕ) × ServesUpstreamLinks state last before after served × (after.sent ≡ before.sent) × IsClosedAt port before.door after.door
 
--- The links of a door whose links are observable, by commands and draws from the opening on. The first is served after the
--- commands of the lines, and each adds the commands of its requests that were kept. So the keeper keeps all of them, after
--- those of the opening. If the keeper never failed, no reply is 503 `KeeperFault`.
+-- The links that a door handed out, if its links are observable: the commands that each link added and the draws that it used, counted
+-- from the opening state. The first link is served after the commands of the lines, and each link adds the commands of its requests
+-- that were kept. So the keeper keeps all of these commands, after those that it had when it was opened. If the keeper never failed, no
+-- reply is 503 `KeeperFault`.
 pub record NamesUpstreamLinks
     (opened : KeptState) (commands : List Command) (kept last : KeptState) (before after : UpstreamFacing) (served : ℕ)
     (links : List (List ℕ)) (returned : List (List ℕ × ℕ)) : Type 0 where
@@ -110,13 +111,13 @@ pub record NamesUpstreamLinks
 
 -- ---- the lines
 
--- the effect of a line on an upstream without a keeper, whatever its number
+-- the effect of a line on an upstream without a keeper, whatever the line's number
 abbrev pub obeying : Taking UpstreamState
 obeying number up line = obeyed_line up line
 
--- The input was read to its end, and the commands of all its lines were accepted and kept. Then `served` links were handed out;
--- each was served over the state that the one before it left, and was returned. So the keeper keeps the commands of the
--- lines after those of the opening, and after them those of the links.
+-- The input was read to its end, and the commands of all its lines were accepted and kept. Then `served` links were handed out. Each
+-- was served from the state after the link before it, and was returned. So the keeper keeps the commands that it had when it was
+-- opened, then those of the lines, and then those of the links.
 pub record ServesAfterLines
     (opened : KeptState) (last : KeeperState) (left left_after : Option (List ℕ)) (before after : UpstreamFacing) (served : ℕ)
     : Type 0 where
@@ -135,7 +136,7 @@ pub record ServesAfterLines
       → NamesUpstreamLinks opened spelled.commands kept (kept_state up last) before after served links returned
 
 -- How a reopened upstream ends, with a door that is to listen at this port. If a line is refused, or the input or the keeper
--- fails, no link was handed out; if the keeper fails, nothing was sent either. The lines end out of memory only if the keeper
+-- fails, no link was handed out; if the keeper fails, nothing was sent either. If taking the lines ends with `Memory`, the keeper
 -- never failed.
 abbrev pub LinesEnd : KeptState → ℕ → UpstreamEnd → KeeperState → Option (List ℕ) → Option (List ℕ) → UpstreamFacing
     → UpstreamFacing → Type 0
@@ -199,8 +200,8 @@ pub record EndsReopened
   pub opens : ReopensUpstream start reopened opened
   pub ends : LinesEnd opened port end last left left_after before after
 
--- How an upstream ends once its keeper was created. If a row is refused, that was printed and no link was handed out. If memory
--- ran out before, or the keeper failed before a link was handed out, nothing was sent either.
+-- How an upstream ends once its keeper was created. If a row is refused, the row line was printed and no link was handed out. With
+-- `OutOfMemory` (memory ran out before lines were taken) or `KeeperFault`, nothing was sent and no link was handed out.
 abbrev pub KeeperEnd : KeptState → ℕ → UpstreamEnd → KeeperState → Option (List ℕ) → Option (List ℕ) → UpstreamFacing
     → UpstreamFacing → Type 0
 KeeperEnd start port NoMemory last left left_after before after = IsUntouched before after
@@ -211,9 +212,9 @@ KeeperEnd start port (Lines fault) last left left_after before after =
     EndsReopened start port (Lines fault) last left left_after before after
 KeeperEnd start port (Links end) last left left_after before after = EndsReopened start port (Links end) last left left_after before after
 
--- A keeper was created for an upstream, which ended like this, and its maker got the keeper back. If what the maker holds is
--- observable, reopening on the new keeper changes nothing, and no command is kept then. So the maker holds in the end just the
--- commands kept afterwards: those of the lines and then, if links were served, those of the links.
+-- A maker created a keeper for an upstream, the upstream ended with `end`, and the maker got the keeper back. If the rows that the
+-- maker holds are observable, reopening on the new keeper leaves the upstream unchanged, and the keeper has no commands at that time.
+-- So in the end the maker holds just the commands kept since: those of the lines and then, if links were served, those of the links.
 pub record EndsKept (start : UpstreamState) (port : ℕ) (end : UpstreamEnd) (before after : Scene) : Type 0 where
   pub made : KeeperState
   pub is_new_keeper : IsNewKeeper before.keep.held made
@@ -271,8 +272,8 @@ IsDecidedFrom start code left =
     ⊎ ((reopened : ℕ) × (opened : KeptState) × ReopensUpstream start reopened opened
     × IfSome left (λ bytes. code ≡ lines_code keeping (kept_lines_of opened) bytes))
 
--- The exit code is that of how the lines end, from the start state with these arguments, reopened on a new keeper. If what the
--- maker holds is observable, it is that of how they end without a keeper.
+-- The exit code, for an upstream that starts with these arguments and is reopened on a new keeper: 3 if a row is refused, otherwise
+-- that of how the lines end. If the maker's rows and the input are observable, it is that of how the lines end without a keeper.
 pub record IsDecidedByLines (words : UpstreamArguments) (code : ℕ) (before : Scene) : Type 0 where
   pub start : UpstreamState
   pub coming : Coming

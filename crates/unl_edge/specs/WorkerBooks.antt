@@ -1,20 +1,21 @@
--- The metrics of a worker.
+-- The metrics of a worker: usage counts, which the worker hands over through a queue to the thread that polls the upstream. A book is a
+-- list of counts.
 use Rattle.std.specs.Prelude.{◌≡◌, List, []}
 use Rattle.unl_edge.specs.declared.link_handler.EdgeLinkHandler.{EdgeLinkHandler}
 use Rattle.unl_metrics.specs.Book.{Book}
 use Rattle.unl_refresh.specs.MetricsQueues.{Receiving}
 use Rattle.unl_workers.specs.declared.worker.WorkerSlot.{WorkerSlot}
 
--- a worker's metrics: the counts not handed over yet, and the books handed over
+-- a worker's metrics: the counts that its sender has not put into the queue yet, and the books that it has put there, in order
 pub record WorkerBook : Type 0 where
   pub counts : Book
   pub handed : List Book
 
--- the metrics of a worker's state
+-- the metrics in the state of a worker (its link handler)
 abbrev pub book_of : {W : Type 0} → EdgeLinkHandler W → WorkerBook
 book_of handler = record { counts = handler.book; handed = handler.sender.handed }
 
--- no counts, and none handed over
+-- the metrics of a new worker: no counts, and no book handed over
 abbrev pub new_book : WorkerBook
 new_book = record { counts = []; handed = [] }
 
@@ -23,7 +24,7 @@ pub record HasNewBook {W : Type 0} (receiver : Receiving) (handler : EdgeLinkHan
   pub new : book_of handler ≡ new_book
   pub queue : handler.sender.queue ≡ receiver.queue
 
--- what was handed over at a slot
+-- the books that the worker of a slot has handed over, in order
 abbrev pub handed_at : {W R : Type 0} → WorkerSlot (EdgeLinkHandler W) R → List Book
 handed_at pool_slot = pool_slot.server.sender.handed
 

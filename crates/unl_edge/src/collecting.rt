@@ -1,4 +1,4 @@
-//! Takes the worker slots apart once the door is closed: their metrics senders go back to the receiver.
+//! After the worker pool has ended, returns the metrics senders of its worker slots to the metrics receiver.
 ghost use Rattle.std.specs.Prelude.{◌≡◌, ◌+◌, ◌++◌, ◌^◌, List, [], All, IfOk, flat_map, length};
 ghost use Rattle.unl_edge.specs.Edges.{accepted_in};
 ghost use Rattle.unl_edge.specs.WorkerBooks.{HandsTo, handed_at};
@@ -9,8 +9,9 @@ use crate::link_handler::EdgeLinkHandler;
 use unl_refresh::MetricsReceiver;
 use unl_workers::{AcceptOutcome, PoolFault, PoolOutcome, WorkerSlot};
 
-/// Returns what the door handed out. The receiver takes the senders of the slots back, which shows that the books that were
-/// handed over are those that it took and those that wait.
+/// Returns how many links (connections of clients) the door handed out, and whether it was then closed or failed; or
+/// the fault of the pool. The receiver takes the senders of the slots back. This proves that the metrics books that the
+/// workers handed over are those that the receiver took and those that still wait in the queue.
 pub(crate) fn accepted_in<'a, R: Drop, W>(
     served: Result<PoolOutcome<EdgeLinkHandler<'a, W>, R>, PoolFault>,
     receiver: MetricsReceiver<'a>,
@@ -36,8 +37,8 @@ pub(crate) fn accepted_in<'a, R: Drop, W>(
     }
 }
 
-/// Takes the senders of all slots back, which shows that the books that were handed over are those that were taken and those that
-/// wait.
+/// Takes the senders of all slots back. This proves that the books that were handed over are those that the receiver
+/// took and those that still wait in the queue.
 fn count_metrics<'a, R: Drop, W>(
     receiver: MetricsReceiver<'a>,
     pool_slots: Vec<WorkerSlot<EdgeLinkHandler<'a, W>, R>>,

@@ -1,4 +1,5 @@
-//! An upstream and its keeper, while they take the lines of an input.
+//! Reads commands from the lines of an upstream's input. Each command is applied to the upstream and stored by its
+//! keeper, an append-only store of commands.
 ghost use Rattle.std.specs.Prelude.{◌≡◌, true, IfOk};
 ghost use Rattle.unl_documents.specs.Reading.{Gives};
 ghost use Rattle.unl_edge.specs.Keeping.{kept_one, refusal_name};
@@ -16,8 +17,11 @@ use unl_upstream::{Command, KeepCommandRefusal, Upstream, keep, read_command};
 /// An upstream, the opened keeper of its commands, and whether the keeper has failed at a line.
 #[derive(Drop)]
 pub(crate) struct CommandIntake<K: Keeper> {
+    /// The upstream, after the commands so far.
     pub up: Upstream,
+    /// The opened keeper of the commands.
     pub keeper: K,
+    /// Whether the keeper has failed at a line.
     pub failed: bool,
 }
 
@@ -34,9 +38,9 @@ impl<K: Keeper> Model for CommandIntake<K> {
         × (kept.failed ≡ false → (K.state kept.keeper).faults ≡ 0) };
 }
 
-/// Keeps the command of each line. A command that is kept prints nothing. A line whose command can't be read or is refused is
-/// refused; the cause is the first fault of the document or the name of the refusal. A fault of the keeper is noted in `failed`
-/// and ends the lines as out of memory does.
+/// Applies and stores the command of each line. A command that is stored prints nothing. A line is refused if its
+/// command can't be read or is refused; the cause is the first fault of the document or the name of the refusal. If the
+/// keeper fails, `failed` is set and no further line is processed, as if memory had run out.
 impl<K: Keeper> LineProcessor for CommandIntake<K> {
     ghost use Rattle.unl_edge.specs.Keeping.{kept_line};
 
@@ -73,7 +77,7 @@ fn read_line(alloc: Global, line: &[u8]) -> Result<Command, BadDocument>
     read_command(alloc, &value)
 }
 
-/// Keeps a command and prints nothing. Notes whether the keeper failed.
+/// Keeps a command and prints nothing. Sets `failed` if the keeper failed.
 fn take_command<K: Keeper>(
     alloc: Global,
     kept: &mut CommandIntake<K>,
@@ -93,7 +97,8 @@ fn take_command<K: Keeper>(
     }
 }
 
-/// Returns the name of a refusal. It is empty for `KeeperFault` and `Memory`, which refuse no line.
+/// Returns the name of a refusal. It is empty for `KeeperFault` and `Memory`: they end the processing, and no line is
+/// refused because of them.
 fn name_of(refusal: KeepCommandRefusal) -> &'static str
     ensures { result.now ≡ refusal_name refusal }
 {

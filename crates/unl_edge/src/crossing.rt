@@ -1,5 +1,5 @@
-//! Proofs that the parts of a worker's state are `Send`. They are proved part by part, since one proof search over all of them
-//! times out.
+//! Proofs that the parts of a worker's state are `Send`. They are proved part by part, since one proof search over all
+//! of them times out.
 ghost use denote.Ref.{NamedLft};
 ghost use Rattle.std.specs.Thread.{IsSend};
 ghost use Rattle.unl_edge.specs.contracts.link_handler.FreshDesk as DeskType;
@@ -41,8 +41,8 @@ fn notes_cross()
     send_of::<Served>()
 }
 
-/// The parts of a worker's state are `Send`, and so is a receiver of metrics. Callers that move one to another thread call this
-/// first, to have the facts. It does nothing at run time.
+/// The parts of a worker's state are `Send`, and so is a receiver of metrics. Callers that move one to another thread
+/// call this first, to have the facts. It does nothing at run time.
 pub(crate) fn worker_parts_are_send()
     ensures desk { IsSend DeskType.the_row }
     ensures book { IsSend BookType.the_row }

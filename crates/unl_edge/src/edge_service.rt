@@ -1,4 +1,5 @@
-//! Serving the links of a door concurrently, over what a writer publishes meanwhile.
+//! Serves the links of a door with concurrent workers, while a poller keeps the board up to date. The board is the
+//! state from which requests are answered: the snapshot of each environment, and the known tokens.
 ghost use Rattle.std.specs.Prelude.{◌≡◌, ◌<◌, ◌≤◌, ◌+◌, All, IfOk, OnOk, length};
 ghost use Rattle.std.specs.List.{AllZip};
 ghost use Rattle.unl_base.specs.Doors.{IsListening};
@@ -32,9 +33,9 @@ use unl_edge_state::{EdgeReader, EdgeWriter, begin_orderly, readers_are_send, wr
 use unl_refresh::{MetricsQueue, MetricsReceiver, Poller};
 use unl_workers::{AcceptOutcome, PoolFault, PoolOutcome, WorkerSlot, run_pool};
 
-/// Serves the links of a listening door with this many workers, over a board that is kept up to date. The upstream is polled
-/// once before the first link is accepted, and then at a pace, concurrently with the workers. Returns the number of links that
-/// the door handed out, and whether it then was closed or failed.
+/// Serves the links of a listening door with this many workers, over a board that is kept up to date. The upstream is
+/// polled once before the first link is accepted, and then at a pace, concurrently with the workers. Returns the number
+/// of links that the door handed out, and whether it then was closed or failed.
 ///
 /// # Errors
 /// `Spawner` if a thread couldn't be started, and `Memory` if out of memory; the door handed out no link then.
@@ -80,7 +81,8 @@ where
     }
 }
 
-/// As `serve_service`, with a writer that has published nothing, its readers, and a new receiver of metrics. Ends the writer.
+/// As `serve_service`, with a writer that has published nothing, its readers, and a new receiver of metrics. Ends the
+/// writer.
 fn serve_from<D: Door, P, R, T, S: Spawner, W: Wait + Sync>(
     alloc: Global,
     rt: &W,
@@ -150,7 +152,8 @@ where
     }
 }
 
-/// As `serve_service`, after the first turn. Each reader learns what that turn published.
+/// As `serve_service`, after the first poll. First, each reader learns the installs of `writer`, so that it shows no
+/// older board.
 fn serve_after<'a, D: Door, P, R, T, S: Spawner, W: Wait + Sync>(
     alloc: Global,
     rt: &'a W,
@@ -252,7 +255,8 @@ where
     readers_are_send();
     writers_are_send::<W>();
     worker_parts_are_send();
-    // Matched and rebuilt: only in the `Ok` arm is it known that the task still holds the same references.
+    // The result is matched, and not returned directly, because the proof treats the `Ok` case apart: only there is it
+    // known that the task still holds the same references.
     match run_pool(alloc, rt, spawner, door, pace, &mut turn, pool_slots) {
         Ok(outcome) => Ok(outcome),
         Err(PoolFault::Spawner) => Err(PoolFault::Spawner),

@@ -1,4 +1,6 @@
-//! The command `edge`: polls its upstream, and serves the links of its door over the result.
+//! The command `edge`: polls its upstream to keep a board up to date (the known tokens and the current version of each
+//! environment), and answers requests from this board. The requests come on the links (connections) that its door (the
+//! listener at a port) accepts.
 ghost use Rattle.std.specs.Prelude.{◌≡◌, ◌<◌, ◌≤◌, IfOk, length, map, true};
 ghost use Rattle.unl_base.specs.Faults.{Rose};
 ghost use Rattle.unl_core.specs.Board.{AreSlots};
@@ -23,9 +25,10 @@ use unl_refresh::Poller;
 use unl_words::{EdgeArguments, token_environments};
 use unl_workers::PoolFault;
 
-/// Runs an edge. The boot number of its board is the word of a draw. The upstream is polled once; then the workers serve the
-/// links that come to the port, concurrently, while the upstream is polled again at a pace. If the door fails, the links that came
-/// before are served as well.
+/// Runs an edge until its door is closed or fails, and returns how it ended. The boot number of its board, which
+/// distinguishes this run of the program from others, is a random word. The upstream is polled once. Then the workers
+/// serve the links of the door concurrently, while the upstream is polled again at each turn of `world.pace`. If the
+/// door fails, the links that it accepted before are still served.
 pub fn run_edge<I: Source, O: Sink, D: Door, P, R, T, S: Spawner, Q: KeepMaker, W: Wait + Sync>(
     alloc: Global,
     words: &EdgeArguments,
@@ -49,7 +52,8 @@ where
     }
 }
 
-/// Creates a board with an empty slot for each of the upstream's tokens, and the state that keeps it up to date.
+/// Creates a board with an empty slot (an environment without a version) for each of the upstream's tokens, and the
+/// poller that keeps the board up to date.
 #[tactic(auto, using(crate::proofs::Fitting::address_fits, crate::proofs::Fitting::tokens_fit, crate::proofs::Fitting::opened_places))]
 fn begin_service(alloc: Global, boot: u64, words: &EdgeArguments) -> Result<(Board, Poller), Memory>
     requires { IsEdge words.now }

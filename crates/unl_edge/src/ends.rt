@@ -21,12 +21,12 @@ pub enum CheckEnd {
     OutOfMemory,
 }
 
-/// The outcome of serving the links of a door.
+/// The outcome of serving the links of a door. A door accepts the connections of clients and hands them out as links.
 #[derive(Clone, Copy)]
 pub enum ServingEnd {
     /// The door was closed, and the count of the links was printed.
     Closed,
-    /// The door was closed, and then the output failed.
+    /// The door was closed, and then printing the count of the links failed.
     WriteFault,
     /// The door failed, or a thread couldn't be started.
     DoorFault,
@@ -47,16 +47,17 @@ impl ServingEnd {
     }
 }
 
-/// The outcome of an upstream.
+/// The outcome of the command `upstream`. The keeper of an upstream stores its commands in rows.
 #[derive(Clone, Copy)]
 pub enum UpstreamEnd {
-    /// Memory ran out before it took lines.
+    /// Memory ran out before the first line of the input was taken.
     OutOfMemory,
-    /// Its keeper failed, or none could be created.
+    /// The keeper failed, or couldn't be created.
     KeeperFault,
-    /// A row of its keeper is missing or isn't an accepted command; with the result of printing that.
+    /// A row of the keeper is missing or isn't an accepted command. The field is the result of printing a line about
+    /// that row.
     Row(Result<(), WriteLineFault>),
-    /// Not all lines of its input were accepted.
+    /// Taking the lines of the input ended before its end, with the cause: a refused line, a fault, or out of memory.
     Lines(LinesFault),
     /// All lines were accepted, and then links were served.
     Links(ServingEnd),

@@ -1,4 +1,4 @@
-//! The state with which a worker of an edge serves links.
+//! The link handler of an edge: the state with which one worker serves links.
 ghost use Rattle.std.specs.Prelude.{◌≡◌, [], IfOk};
 ghost use Rattle.unl_edge_state.specs.Reading.{IsSteady};
 
@@ -15,9 +15,12 @@ use unl_refresh::MetricsSender;
 use unl_server::Server;
 use unl_workers::LinkHandler;
 
-/// A desk whose boards are never older than the last one its reader learned of. Its reader sees one orderly list.
+/// A desk that answers requests with a reader. An install is one publication of the board. Each answer is from a board
+/// with at least the number of installs that the reader has learned of. The reader sees one list of installs only: it
+/// has never continued from a learned list, except from the opening board.
 #[derive(Drop)]
 pub(crate) struct FreshDesk {
+    /// The reader of the published boards.
     pub reader: EdgeReader,
     ghost steady: { ∥ IsSteady reader ∥₁ },
 }
@@ -51,19 +54,24 @@ impl Desk for FreshDesk {
         (continuation_of first.reader) (continuation_of next.reader) (continuation_of last.reader) };
 }
 
-/// Serves links over the published boards and hands over the metrics they report. It holds a desk, the metrics reported at it,
-/// what hands them over to the poller, and a buffer for the notes of one connection.
+/// Serves links from the published boards, and hands the reported metrics over to the poller. It has a desk, the
+/// metrics that are not handed over yet, the sender that hands them over, and a buffer for the notes of one connection:
+/// one note for each answered request.
 #[derive(Drop)]
 pub(crate) struct EdgeLinkHandler<'a, W> {
+    /// Answers the requests.
     pub desk: FreshDesk,
+    /// The metrics that are not handed over yet.
     pub book: MetricsBook,
+    /// Hands the metrics over to the poller.
     pub sender: MetricsSender<'a>,
+    /// The notes of the connection that is served, or of the last one.
     notes: Served,
     rt: &'a W,
 }
 
 impl<'a, W> EdgeLinkHandler<'a, W> {
-    /// Creates the state for one worker, with no metrics.
+    /// Creates the handler of one worker, without metrics. Fails only if out of memory.
     pub fn new(
         alloc: Global,
         rt: &'a W,

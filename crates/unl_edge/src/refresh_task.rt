@@ -1,4 +1,4 @@
-//! The polls of an edge, concurrent with its workers.
+//! The periodic task of an edge: it polls the upstream while the workers serve links.
 use std::alloc::Global;
 use std::sync::Wait;
 use unl_base::Peer;
@@ -9,10 +9,15 @@ use unl_workers::PeriodicTask;
 /// Polls the upstream at each turn, publishes its replies, and sends it the metrics of the workers.
 #[derive(Drop)]
 pub(crate) struct RefreshTask<'u, 'e, 'p, 'r, 'a, 'w, W: Wait, P> {
+    /// Makes the requests of each turn.
     pub poller: &'u mut Poller,
+    /// Publishes the replies.
     pub writer: &'e mut EdgeWriter<'w, W>,
+    /// The upstream server.
     pub peer: &'p mut P,
+    /// Receives the metrics of the workers.
     pub receiver: &'r mut MetricsReceiver<'a>,
+    /// The runtime, which the receiver needs to take books from its queue.
     pub rt: &'a W,
 }
 

@@ -1,4 +1,5 @@
-//! Polling with a writer that keeps its origin.
+//! One turn of a poller with a writer. Its contract also states that the writer's origin stays the same. The origin is
+//! the writer's publication and the opening board of that publication.
 ghost use Rattle.std.specs.Prelude.{◌≡◌, ◌≤◌, ◌+◌, OnOk, length};
 ghost use Rattle.unl_edge_state.specs.Writing.{installed_by};
 ghost use Rattle.unl_publication.specs.Looking.{SameOrigin};
@@ -16,7 +17,7 @@ use unl_edge_state::EdgeWriter;
 use unl_refresh::Poller;
 use unl_tokens::Book;
 
-/// What a writer knew at some time. It is chosen at each call.
+/// What a writer knew before a turn. It exists only in contracts, so a call passes it as a type parameter.
 pub(crate) trait Root {
     ghost use Rattle.unl_core.specs.declared.board.Install.{Install};
     ghost use Rattle.unl_edge_state.specs.Editions.{BoardAt};
@@ -25,13 +26,14 @@ pub(crate) trait Root {
     ghost known: { Knowledge BoardAt Install };
 }
 
+/// A call that passes `Brand` as `K` doesn't use this value: the proof of the call chooses the value of `known`.
 impl Root for Brand {
     ghost use Rattle.unl_publication.specs.Rule.{knows_nothing};
 
     ghost known = { knows_nothing };
 }
 
-/// A writer with the same origin as `K`, whatever it installs.
+/// A writer with the same origin as the knowledge `K.known`. This is an invariant, so each install preserves it.
 struct SameOriginWriter<'w, W: Wait, K: Root> {
     writer: EdgeWriter<'w, W>,
     root: PhantomData<K>,
@@ -66,7 +68,7 @@ impl<W: Wait, K: Root> Installer for SameOriginWriter<'_, W, K> {
     }
 }
 
-/// Polls once with a writer, and returns the writer.
+/// Makes one turn of the poller with a writer, and returns the writer.
 ///
 /// # Errors
 /// `Memory` if out of memory. The turn ends then.
@@ -94,7 +96,7 @@ pub(crate) fn turn_by<'w, W: Wait, P: Peer>(
     turn_from::<W, P, Brand>(alloc, poller, writer, peer)
 }
 
-/// As `turn_by`, with the root chosen by the caller.
+/// As `turn_by`, where the caller passes what the writer knew as `K`.
 fn turn_from<'w, W: Wait, P: Peer, K: Root>(
     alloc: Global,
     poller: &mut Poller,

@@ -28,12 +28,12 @@ pub enum Status {
     OutOfMemory,
     /// The door failed, or a thread couldn't be started.
     DoorFault,
-    /// The keeper failed before an upstream served a link, or none could be created.
+    /// The keeper failed before the upstream served a link, or no keeper could be created.
     KeeperFault,
 }
 
 impl Status {
-    /// Returns the exit code.
+    /// Returns the exit code, 0 to 8. The codes are chosen by this project.
     pub fn code(self) -> u8
         ensures { result ≡ code_of self }
     {
@@ -50,7 +50,7 @@ impl Status {
         }
     }
 
-    /// Returns the status for a command that takes lines.
+    /// Returns the status for a command that processes the lines of the input.
     pub fn of_lines(end: Result<(), LinesFault>) -> Status
         ensures { result ≡ lines_status end }
     {
@@ -103,7 +103,7 @@ impl Status {
         }
     }
 
-    /// Returns the status for a run of turns.
+    /// Returns the status for the command `follow`.
     pub fn of_following(end: Result<(), FollowFault>) -> Status
         ensures { result ≡ follow_status end }
     {
@@ -114,7 +114,7 @@ impl Status {
         }
     }
 
-    /// Returns the status for a load.
+    /// Returns the status for the command `load`.
     pub fn of_load(end: Result<(), LoadFault>) -> Status
         ensures { result ≡ load_status end }
     {
@@ -125,7 +125,7 @@ impl Status {
         }
     }
 
-    /// Returns the status for a refused row of a keeper, from the result of printing that.
+    /// Returns the status for a refused row of a keeper. `written` is the result of printing which row it is.
     pub fn of_row(written: Result<(), WriteLineFault>) -> Status
         ensures { result ≡ row_status written }
     {
@@ -136,7 +136,7 @@ impl Status {
         }
     }
 
-    /// Returns the status for an upstream.
+    /// Returns the status for the command `upstream`.
     pub fn of_upstream(end: UpstreamEnd) -> Status
         ensures { result ≡ upstream_status end }
     {
@@ -149,7 +149,7 @@ impl Status {
         }
     }
 
-    /// Returns the status for arguments that name no command.
+    /// Returns the status for bad arguments. `end` is the result of reporting them.
     pub fn of_arguments(end: ArgumentsEnd) -> Status
         ensures { result ≡ arguments_status end }
     {

@@ -1,4 +1,5 @@
-//! The command `upstream`: reopens an upstream on a keeper, takes the commands of the input, and then serves the links of a door.
+//! The command `upstream`: reopens an upstream on a keeper (the store of its commands), takes the commands in the lines
+//! of the input, and then serves the links of a door.
 ghost use Rattle.std.specs.Prelude.{◌≡◌, ◌≢◌, true, IfOk, IsErrOf, string_bytes};
 ghost use Rattle.unl_base.specs.Faults.{Rose};
 ghost use Rattle.unl_edge.specs.Scene.{ChangesForUpstream};
@@ -25,8 +26,9 @@ use unl_keeper::{KeepMaker, KeepRefusal, Keeper};
 use unl_upstream::{ReopenFault, Upstream, reopen, serve_kept_door};
 use unl_words::{UpstreamArguments, own_book};
 
-/// Runs an upstream. Its boot number is the word of a draw. It is reopened on a keeper, takes the commands of the input's lines,
-/// and then serves the links that come to its port, one after the other.
+/// Runs an upstream. Its boot number is the random word of one draw. The upstream is reopened on a keeper: the commands
+/// in the keeper's rows are applied. Then it takes the commands in the input's lines, and at last serves the links that
+/// come to its port, one after the other.
 pub fn run_upstream<
     I: Source,
     O: Sink,
@@ -72,7 +74,7 @@ impl Model for NewUpstream {
 }
 
 impl NewUpstream {
-    /// Returns the upstream.
+    /// Consumes the wrapper and returns the upstream, with the fact that it is new.
     fn into_upstream(self) -> Upstream
         ensures same { result ≡ self }
         ensures new { IsNew result }
@@ -176,7 +178,7 @@ fn run_reopened<K: Keeper, I: Source, O: Sink, D: Door, R: Draws, W: Wait>(
     }
 }
 
-/// Keeps the commands of the input's lines, and then serves the links of the door. Returns the keeper.
+/// Applies and keeps the commands in the input's lines, and then serves the links of the door. Returns the keeper.
 fn take_commands<K: Keeper, I: Source, O: Sink, D: Door, R: Draws, W: Wait>(
     rt: &W,
     alloc: Global,
@@ -250,7 +252,7 @@ fn serve_links<K: Keeper, O: Sink, D: Door, R: Draws, W: Wait>(
     }
 }
 
-/// Prints which row of a keeper is refused, by its place.
+/// Prints which row of a keeper is refused: the row at `place`.
 ///
 /// # Errors
 /// `WriteFault` if the output failed: a prefix of the line was sent. `Memory` if out of memory: nothing was sent.
@@ -267,6 +269,7 @@ fn say_row<O: Sink>(alloc: Global, output: &mut O, place: u64) -> Result<(), Wri
     }
 }
 
+/// Returns the line that is printed for a refused row.
 fn row_line(alloc: Global, place: u64) -> Result<String, AllocError>
     ensures { IfOk result (λ line. string_bytes line ≡ row_line place) }
 {
@@ -294,6 +297,7 @@ pub(crate) fn print_connections<O: Sink>(
     }
 }
 
+/// Returns the line that is printed once the door is closed.
 fn connections_line(alloc: Global, served: u64) -> Result<String, AllocError>
     ensures { IfOk result (λ line. string_bytes line ≡ connections_line served) }
 {

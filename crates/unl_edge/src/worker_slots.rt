@@ -1,4 +1,4 @@
-//! The worker slots of an edge.
+//! Creates the worker slots of an edge, one for each reader.
 ghost use Rattle.std.specs.Prelude.{◌≡◌, ◌<◌, ◌+◌, ◌-◌, All, IfOk, length};
 ghost use Rattle.unl_edge.specs.LinkHandling.{HasLearned, IsOfOrigin};
 ghost use Rattle.unl_edge.specs.WorkerBooks.{HasNewBook};
@@ -13,8 +13,9 @@ use unl_edge_state::{EdgeReader, EdgeWriter};
 use unl_refresh::MetricsReceiver;
 use unl_workers::WorkerSlot;
 
-/// Returns a worker slot for each reader. The reader learns what the writer has published, and the slot has its own draws and its
-/// own sender of metrics.
+/// Returns a worker slot for each reader. The reader learns all that the writer has published. Each slot has its own
+/// source of times and random words, split off from `draws`, and its own sender of metrics to `receiver`. The only
+/// error is out of memory.
 pub(crate) fn worker_slots_of<'a, R: Draws + Drop, W: Wait>(
     alloc: Global,
     rt: &'a W,
@@ -42,7 +43,7 @@ pub(crate) fn worker_slots_of<'a, R: Draws + Drop, W: Wait>(
     Ok(pool_slots)
 }
 
-/// Returns the worker slot for a reader.
+/// Returns the worker slot for a reader, as described at [`worker_slots_of`].
 fn worker_slot_of<'a, R: Draws + Drop, W: Wait>(
     alloc: Global,
     rt: &'a W,

@@ -4,8 +4,9 @@ use std::sync::Wait;
 use unl_base::{Door, Draws, Pace, Peer, Sink, Source, Spawner};
 use unl_keeper::KeepMaker;
 
-/// The endpoints that the program uses: its input and output, the door whose links it serves, the peer that it polls, the draws for its
-/// answers, the pace of its turns, the spawner of its jobs, the maker of its keeper, and the runtime that it waits with.
+/// The endpoints that the program uses: its input and output, the door whose links it serves, the peer that it polls,
+/// the draws for its answers, the pace of its turns, the spawner of its jobs, the maker of its keeper, and the runtime
+/// that it waits with.
 #[derive(Drop)]
 pub struct World<
     I: Source,
@@ -18,14 +19,23 @@ pub struct World<
     Q: KeepMaker,
     W: Wait,
 > {
+    /// Standard input.
     pub input: I,
+    /// Standard output.
     pub output: O,
+    /// The door whose links are served.
     pub door: D,
+    /// The server that is polled.
     pub peer: P,
+    /// The source of the time and the random word of each answer.
     pub draws: R,
+    /// Waits before each turn (a poll of the server), and returns whether there is one more.
     pub pace: T,
+    /// Starts jobs in threads.
     pub spawner: S,
+    /// Creates the keeper of an upstream: the append-only store of its commands.
     pub keep: Q,
+    /// The runtime, with which threads wait.
     pub rt: W,
 }
 

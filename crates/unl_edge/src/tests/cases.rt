@@ -10,24 +10,32 @@ use unl_base::{Door, ListDraws, MemoryPeer, MemorySink, MemorySource, Pace, Real
 /// A run: its arguments, what its endpoints do, and how it must end.
 #[derive(Clone, Copy)]
 pub(crate) struct Case {
+    /// The name that a failed test prints.
     pub name: &'static str,
     /// The arguments, separated by single spaces.
     pub arguments: &'static str,
+    /// The bytes of standard input.
     pub input: &'static str,
+    /// The links that the door hands out, in order.
     pub links: &'static [Script],
+    /// What the door does after them.
     pub after_links: AfterLinks,
     /// What the upstream replies on its connections, one after another. After them it replies nothing.
     pub upstream: &'static [&'static str],
-    /// The numbers of the calls of the upstream that fail, counted from 0.
+    /// The indices, from 0, of the calls to the upstream that fail.
     pub failing_calls: &'static [u64],
-    /// For each later turn, the number of answers that links must have received before it.
+    /// One item for each poll of the upstream after the first. The poll starts when this number of answers was sent on
+    /// links.
     pub turns: &'static [u64],
+    /// How the keeper fails, which stores the commands of an upstream.
     pub keeping: Keeping,
+    /// The exit code.
     pub code: u8,
+    /// The bytes that are written to standard output.
     pub printed: &'static str,
     /// The number of answers that links are sent.
     pub answers: u64,
-    /// The number of links that the door takes back.
+    /// The number of links that are returned to the door after they are served.
     pub returned: u64,
 }
 
@@ -48,7 +56,8 @@ pub(crate) const CASE: Case = Case {
     returned: 0,
 };
 
-/// How a run ended: the exit code, what was printed, the number of correct answers sent on links, of wrong ones, and of links returned.
+/// How a run ended: the exit code, what was printed, the number of correct answers sent on links, of wrong ones, and of
+/// links returned.
 #[derive(Debug, Drop)]
 pub(crate) struct Ending {
     code: u8,

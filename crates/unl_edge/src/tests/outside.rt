@@ -1,4 +1,5 @@
-//! Links, a door and a pace that share event counters, and a maker of failing keepers.
+//! Test doubles for an edge. Three of them share event counters: links (connections), a door (it accepts links) and a
+//! pace (it decides when a repeated job takes its next turn). A fourth creates failing keepers (stores of texts).
 ghost use Rattle.std.specs.Prelude.{◌≡◌, ◌≤◌};
 
 use std::alloc::Global;
@@ -11,7 +12,7 @@ use unl_keeper::{KeepFail, KeepMaker, KeepRefusal, MemoryKeeper};
 /// How often each of these happened in a run.
 #[derive(Drop)]
 pub(crate) struct Events {
-    /// A turn ended.
+    /// The pace was asked for its next turn, so the turn before has ended.
     turns: AtomicU64,
     /// A link was sent its next answer, whole.
     answers: AtomicU64,
@@ -31,8 +32,8 @@ impl Events {
         }
     }
 
-    /// Waits until this many turns have ended and this many answers were sent. Returns false if this has not happened after
-    /// 1,000,000,000 checks.
+    /// Waits until this many turns have ended and this many answers were sent. Returns false if this has not happened
+    /// after 1,000,000,000 checks.
     fn wait_for(&self, turns: u64, answers: u64) -> bool {
         for _ in 0..1_000_000_000u64 {
             if turns <= count_of(&self.turns) && answers <= count_of(&self.answers) {
@@ -65,19 +66,24 @@ fn count_of(event: &AtomicU64) -> u64 {
 /// Bytes that a link receives after this many turns and answers.
 #[derive(Clone, Copy)]
 pub(crate) struct Arrival {
+    /// The number of turns that must have ended.
     pub turns: u64,
+    /// The number of answers that links must have been sent.
     pub answers: u64,
+    /// The bytes.
     pub bytes: &'static str,
 }
 
 /// What comes on a link, and the answers that it must be sent.
 #[derive(Clone, Copy)]
 pub(crate) struct Script {
+    /// What comes on the link, in order.
     pub arrivals: &'static [Arrival],
+    /// The answers, in order.
     pub answers: &'static [&'static str],
 }
 
-/// A link that follows a script. Its reads fail where what they wait for doesn't happen.
+/// A link that follows a script. A read fails if the turns and answers that it waits for don't happen.
 #[derive(Drop)]
 pub(crate) struct TestLink<'a> {
     arrivals: &'static [Arrival],
@@ -150,7 +156,7 @@ impl Sink for TestLink<'_> {
 
     ghost other_parts = { λ link. no_other_parts };
 
-    /// Takes an answer at once.
+    /// Takes the whole piece. It counts as an answer if it is the next one of the script, and otherwise as wrong.
     fn write(&mut self, piece: &[u8]) -> Result<usize, Failed> {
         match self.answers.get(self.sent) {
             Some(answer) if is_text(piece, answer) => {
@@ -266,8 +272,8 @@ impl<'a> Door for TestDoor<'a> {
     ghost within = { λ door. door.in_order };
 }
 
-/// A pace with one turn for each of `turns`, which comes once links were sent that many answers. Asking for
-/// a turn counts the turn before as ended.
+/// A pace with one turn for each item of `turns`. A turn starts once links were sent as many answers in all as its item
+/// says. Each call of `more`, including the first and the last, adds 1 to the ended turns.
 #[derive(Drop)]
 pub(crate) struct TestPace<'a> {
     turns: &'static [u64],
@@ -296,7 +302,7 @@ impl Pace for TestPace<'_> {
     }
 }
 
-/// What happens to the keeper of an upstream.
+/// How the keeper of an upstream fails.
 #[derive(Clone, Copy)]
 pub(crate) enum Keeping {
     /// Creating it fails.
@@ -305,7 +311,8 @@ pub(crate) enum Keeping {
     FailsAt(u64),
 }
 
-/// A maker of keepers in memory. Its fault count is always the maximum, so a failure needs no counting.
+/// A maker of keepers in memory. In contracts its fault count is always the maximum of `u64`, which can't increase, so
+/// `make` need not count its failures.
 #[derive(Drop)]
 pub(crate) struct TestMaker {
     pub keeping: Keeping,

@@ -1,10 +1,11 @@
-//! Runs of an edge, an upstream and a replica, with how each must end.
+//! Runs of an edge, an upstream and a replica, with how each must end. A turn is one poll of the server.
 use crate::tests::cases::{CASE, Case, is_as_said, ran};
 use crate::tests::outside::{AfterLinks, Arrival, Keeping, Script};
 
 /// A request for the health.
 const HEALTH: &str = "GET /internal-backstage/health HTTP/1.1\r\nHost: x\r\n\r\n";
 
+/// The answer to a request for the health.
 const HEALTHY: &str = concat!(
     "HTTP/1.1 200 OK\r\nContent-Type: application/json\r\nContent-Length: 15\r\n\r\n",
     r#"{"status":"OK"}"#,
@@ -13,11 +14,13 @@ const HEALTHY: &str = concat!(
 /// A request for the toggles that are on.
 const TOGGLES: &str = "GET /api/frontend HTTP/1.1\r\nHost: x\r\nAuthorization: *:dev.f\r\n\r\n";
 
+/// The answer if no toggle is on.
 const NONE_IS_ON: &str = concat!(
     "HTTP/1.1 200 OK\r\nContent-Type: application/json\r\nContent-Length: 14\r\n\r\n",
     r#"{"toggles":[]}"#,
 );
 
+/// The answer if the toggle of feature `a` is on.
 const A_IS_ON: &str = concat!(
     "HTTP/1.1 200 OK\r\nContent-Type: application/json\r\nContent-Length: 133\r\n\r\n",
     r#"{"toggles":[{"enabled":true,"impressionData":false,"name":"a","#,
@@ -77,16 +80,19 @@ const BOOK: &str = concat!(
     r#"{"tokens":[{"token":"*:dev.f","type":"frontend","projects":["*"]}]}"#,
 );
 
+/// An upstream's reply with version 5, where feature `a` is off.
 const A_IS_OFF_AT_5: &str = concat!(
     "HTTP/1.1 200 OK\r\n\r\n",
     r#"{"events":[{"type":"hydration","eventId":5,"features":[{"name":"a","enabled":false}]}]}"#,
 );
 
+/// An upstream's reply with the change to version 6, where feature `a` is on.
 const A_IS_ON_AT_6: &str = concat!(
     "HTTP/1.1 200 OK\r\n\r\n",
     r#"{"after":5,"events":[{"type":"feature-updated","eventId":6,"feature":{"name":"a","enabled":true}}]}"#,
 );
 
+/// Runs of an edge.
 const EDGES: [Case; 5] = [
     Case {
         name: "two links meet",
@@ -146,10 +152,11 @@ fn edges(rt: HostRuntime) {
     }
 }
 
-/// A command of an upstream.
+/// A command to an upstream: it puts feature `a` into the environment `dev`.
 const PUT_A: &str =
     r#"{"command":"put-feature","environment":"dev","feature":{"name":"a","enabled":true}}"#;
 
+/// Runs of an upstream whose door or keeper fails.
 const UPSTREAMS: [Case; 4] = [
     Case {
         name: "the door of an upstream fails at the second link",
@@ -197,18 +204,20 @@ fn upstreams(rt: HostRuntime) {
     }
 }
 
+/// An upstream's reply with version 5, where feature `a` is on.
 const A_IS_ON_AT_5: &str = concat!(
     "HTTP/1.1 200 OK\r\nETag: t\r\n\r\n",
     r#"{"events":[{"type":"hydration","eventId":5,"features":[{"name":"a","enabled":true}]}]}"#,
 );
 
+/// An upstream's reply with the change to version 6, where feature `a` is off.
 const A_IS_OFF_AT_6: &str = concat!(
     "HTTP/1.1 200 OK\r\n\r\n",
     r#"{"after":5,"events":[{"type":"feature-updated","eventId":6,"feature":{"name":"a","enabled":false}}]}"#,
 );
 
-/// The requests to an upstream: a feature is put into the project A, the changes are asked for, the feature moves to B, and the
-/// changes after the first version are asked for.
+/// The requests to an upstream: a feature is put into the project A, the changes are asked for, the feature moves to B,
+/// and the changes after the first version are asked for.
 const MOVE_M: &str = concat!(
     "POST /commands HTTP/1.1\r\nHost: x\r\nAuthorization: s\r\nContent-Length: 97\r\n\r\n",
     r#"{"command":"put-feature","environment":"dev","feature":{"name":"m","project":"A","enabled":true}}"#,
@@ -219,31 +228,33 @@ const MOVE_M: &str = concat!(
     "If-None-Match: \"0000000000000000-1-0-1\"\r\n\r\n",
 );
 
+/// The answer to a command that led to version 1.
 const NUMBER_1: &str = concat!(
     "HTTP/1.1 200 OK\r\nContent-Type: application/json\r\nContent-Length: 12\r\n\r\n",
     r#"{"number":1}"#,
 );
 
+/// The answer to a command that led to version 2.
 const NUMBER_2: &str = concat!(
     "HTTP/1.1 200 OK\r\nContent-Type: application/json\r\nContent-Length: 12\r\n\r\n",
     r#"{"number":2}"#,
 );
 
-/// The reply about the first version, from the upstream and from the edge behind it.
+/// The reply with the first version, of the upstream and of the edge that polls it.
 const M_IS_IN_A: &str = concat!(
     "HTTP/1.1 200 OK\r\nContent-Type: application/json\r\nContent-Length: 216\r\nETag: \"0000000000000000-1-0-1\"\r\n\r\n",
     r#"{"events":[{"eventId":1,"features":[{"dependencies":[],"enabled":true,"impressionData":false,"name":"m","#,
     r#""project":"A","stale":false,"strategies":[],"type":"release","variants":[]}],"segments":[],"type":"hydration"}]}"#,
 );
 
-/// What an upstream replies of the second version to a token that sees all projects.
+/// An upstream's reply with the change to the second version, for a token that sees all projects.
 const M_IS_IN_B: &str = concat!(
     "HTTP/1.1 200 OK\r\nContent-Type: application/json\r\nContent-Length: 215\r\nETag: \"0000000000000000-1-0-2\"\r\n\r\n",
     r#"{"after":1,"events":[{"eventId":2,"feature":{"dependencies":[],"enabled":true,"impressionData":false,"name":"m","#,
     r#""project":"B","stale":false,"strategies":[],"type":"release","variants":[]},"type":"feature-updated"}]}"#,
 );
 
-/// What an edge replies of the second version to a token that sees only the project A.
+/// An edge's reply with the change to the second version, for a token that sees only the project A.
 const M_IS_GONE: &str = concat!(
     "HTTP/1.1 200 OK\r\nContent-Type: application/json\r\nContent-Length: 93\r\nETag: \"0000000000000000-1-0-2\"\r\n\r\n",
     r#"{"after":1,"events":[{"eventId":2,"featureName":"m","project":"A","type":"feature-removed"}]}"#,
@@ -285,7 +296,8 @@ const CHANGES_LINK: Script = Script {
     answers: &[M_IS_IN_A, M_IS_GONE],
 };
 
-/// Replicas of scripted servers; and then an upstream, an edge that gets the upstream's replies, and a replica that gets the edge's.
+/// Runs of replicas whose server follows a script; then runs of an upstream, of an edge that gets the upstream's
+/// replies, and of a replica that gets the edge's replies.
 const FOLLOWS: [Case; 5] = [
     Case {
         name: "a replica takes a batch after an unchanged turn",
