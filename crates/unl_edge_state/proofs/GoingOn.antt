@@ -1,4 +1,4 @@
--- Orderly lists of installs.
+-- Lemmas on orderly lists of installs.
 use Rattle.std.proofs.Common.{ℕ, zero, suc, ◌≤◌, List, [], ◌∷◌, ◌++◌, take, Option, Some, sym, subst, arith}
 use Rattle.unl_core.specs.declared.board.Board.{Board}
 use Rattle.unl_core.specs.declared.board.Slot.{Slot}

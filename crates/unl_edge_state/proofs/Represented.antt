@@ -28,13 +28,13 @@ last_represented : (line : List Era) (sees : Sees) (slot : ℕ) (board : Board) 
 last_represented line sees slot board [] represented = represented
 last_represented line sees slot board (what ∷ more) represented = last_represented line sees slot (installed what board) more represented.1
 
--- It still always had them after one more install, if the board has one then.
+-- After one more install the slot still always had revisions of the line, if its version on the new board is one.
 represented_more : (line : List Era) (sees : Sees) (slot : ℕ) (board : Board) (list : List Install) (what : Install) → AlwaysRepresentedFrom line sees slot board list
     → SlotRepresented line sees slot (installed what (board_after board list)) → AlwaysRepresentedFrom line sees slot board (list ++ what ∷ [])
 represented_more line sees slot board [] what represented new = (represented, new)
 represented_more line sees slot board (first ∷ more) what represented new = (represented.0, represented_more line sees slot (installed first board) more what represented.1 new)
 
--- A slot that takes a revision of the line has it. There may be no such slot.
+-- After a slot takes a revision of the line, its version is a revision of the line. The slot may not exist.
 taken_represented : (line : List Era) (sees : Sees) (slots : List Slot) (slot : ℕ) (v : EnvVersion) → RepresentsLine line sees v → IfSome (snapshot_at (taking slot v slots) slot) (RepresentsLine line sees)
 taken_represented line sees [] slot v represents = tt
 taken_represented line sees (s ∷ slots) zero v represents = represents

@@ -1,4 +1,4 @@
--- Which types are `Send`, from their parts.
+-- Readers and writers are `Send` because their parts are.
 use denote.Param.Send.{IsSend, IsSync, sendable, view_send}
 use denote.Param.SendFields.{declared_send}
 use denote.RattleType.{RattleType}
@@ -17,7 +17,7 @@ use Rattle.unl_publication.specs.contracts.reader.Reader as Reader
 use Rattle.unl_publication.specs.contracts.rule.Ruled as Ruled
 use Rattle.unl_publication.specs.contracts.rule.RuledProtocolKnowledgeState.TheImpl as ruled
 
--- A reader, from its seat.
+-- A reader is `Send` if its `left_right` reader is.
 reader_send : IsSend seat_type → IsSend reader_type
 reader_send seat =
     declared_send
@@ -25,11 +25,11 @@ reader_send seat =
     (ruled.ghosts Edition.the_row Install.the_row Edition.the_row counted.ghosts ruled.no_dict absorb.ghosts ruled.no_dict ruled.no_dict))
     (seat, (search (sendable, crosses) depth 20, (search sendable, (search sendable, tt))))
 
--- An edge's reader, from its seat.
+-- An edge's reader is `Send` if its `left_right` reader is.
 pub edge_reader_send : IsSend seat_type → IsSend EdgeReader.the_row
 edge_reader_send seat = let reader : IsSend reader_type = reader_send seat in search (sendable, crosses) depth 20
 
--- A publisher, from its writer and from what it waits by.
+-- A publisher is `Send` if its writer is `Send` and its `Wait` is `Sync`.
 publisher_send : (lifetime : NamedLft) (wait : RattleType) → IsSync wait → IsSend publishing_type → IsSend (publisher_type lifetime wait)
 publisher_send lifetime wait shared publishing =
     declared_send
@@ -37,7 +37,7 @@ publisher_send lifetime wait shared publishing =
     (ruled.ghosts Edition.the_row Install.the_row Edition.the_row counted.ghosts ruled.no_dict absorb.ghosts ruled.no_dict ruled.no_dict))
     (search (sendable, crosses) depth 20, (search (sendable, crosses) depth 20, tt))
 
--- An edge's writer, from these and from its places.
+-- An edge's writer is `Send` if, in addition, its places are.
 pub edge_writer_send : (lifetime : NamedLft) (wait : RattleType) → IsSync wait → IsSend publishing_type → IsSend Place.the_row
     → IsSend (writer_type lifetime wait)
 edge_writer_send lifetime wait shared publishing place =

@@ -1,5 +1,5 @@
--- What a reader continues from after it looked: a list that starts with the one that it had. Stated over plain values, with the two
--- laws that `Desk` requires: it is reflexive and transitive.
+-- How a look changes the list of installs that a reader knows: the list after the look starts with the list before it. The relation
+-- `Continued` states this. The trait `Desk` requires that the relation is reflexive and transitive, which is proved below.
 use Rattle.std.proofs.Common.{◌≡◌, List, ◌++◌, length, take, drop, Option, true, is_some, refl, sym, ap, ◌∙◌, append_assoc}
 use Rattle.std.proofs.Math.Seq.{take-append_seam, take-length}
 use Rattle.std.proofs.lemmas.List.{take-append-drop}
@@ -9,9 +9,10 @@ use Rattle.unl_publication.specs.declared.knowledge.Knowledge.{Knowledge}
 use Rattle.unl_publication.specs.Meaning.{before_of}
 use Rattle.unl_publication.specs.Rule.{StartsWith}
 
--- How a reader's state may change. `now` is what it knows, and `past` is what it knew before it learned a list, if it has not looked
--- since. `after` and `past_after` are the same two later. The opening board stays. The later list of installs starts with the earlier
--- one. The boards known before learning stay the same. If `past_after` is there, it is `past`.
+-- How a reader's state may change. `now` is its knowledge. If the reader learned a list since its last look, `past` is its knowledge at
+-- that look, otherwise `past` is `None`. `after` and `past_after` are the same two at a later time. The opening board is unchanged. The
+-- later list of installs starts with the earlier one. The boards known before the learned list are unchanged. If `past_after` is
+-- present, it equals `past`.
 abbrev pub Continued :
     Option (Knowledge BoardAt Install) → Knowledge BoardAt Install → Option (Knowledge BoardAt Install) → Knowledge BoardAt Install → Type 0
 Continued past now past_after after =
@@ -22,16 +23,20 @@ Continued past now past_after after =
 
 -- ---- lists
 
--- A list whose prefix is this one starts with it.
+-- If the first items of `whole` are `front`, then `whole` starts with `front`.
 pub starts_with : (front whole : List Install) → take (length front) whole ≡ front → StartsWith whole front
-starts_with front whole is =
-    (drop (length front) whole, sym (take-append-drop (length front) whole) ∙ ap (λ (xs : List Install). xs ++ drop (length front) whole) is)
+starts_with front whole is = (
+  drop (length front) whole,
+  sym (take-append-drop (length front) whole)
+      ∙ ap (λ (xs : List Install). xs ++ drop (length front) whole) is,
+)
 
 takes_front : (front whole : List Install) → StartsWith whole front → take (length front) whole ≡ front
 takes_front front whole h = ap (take (length front)) h.1 ∙ take-append_seam front h.0
 
--- A longer list still starts with it.
-pub still_starts : (front whole longer : List Install) → take (length front) whole ≡ front → StartsWith longer whole → take (length front) longer ≡ front
+-- If `whole` starts with `front`, and `longer` starts with `whole`, then `longer` starts with `front`.
+pub still_starts : (front whole longer : List Install) → take (length front) whole ≡ front → StartsWith longer whole
+    → take (length front) longer ≡ front
 still_starts front whole longer is h =
     let d = starts_with front whole is in
     takes_front front longer (d.0 ++ h.0, h.1 ∙ (ap (λ (xs : List Install). xs ++ h.0) d.1 ∙ append_assoc front d.0 h.0))

@@ -1,4 +1,5 @@
--- The types of the parts of readers and writers, to state that they can be sent to another thread.
+-- The types of the readers and writers of editions, and of the `left_right` readers and writers inside them. They serve to state
+-- that these can be sent to another thread. An edition is a board and the number of installs that led to it.
 use denote.RattleType.{RattleType}
 use denote.Ref.{NamedLft}
 use Rattle.left_right.specs.contracts.reader.Reader as Seat
@@ -44,13 +45,14 @@ publishing_type =
     Publishing.the_row Edition.the_row Install.the_row (Ruled.the_row Install.the_row) Edition.the_row counted.ghosts absorb.ghosts
     (ruled.ghosts Edition.the_row Install.the_row Edition.the_row counted.ghosts ruled.no_dict absorb.ghosts ruled.no_dict ruled.no_dict)
 
--- The type of a publisher of editions, by the type and the lifetime of what it waits by.
+-- The type of a publisher of editions. It holds a reference to a value of type `wait`, with which it waits for readers. `lifetime`
+-- is the lifetime of this reference.
 abbrev pub publisher_type : NamedLft → RattleType → RattleType
 publisher_type lifetime wait =
     Publisher.the_row lifetime wait Edition.the_row Install.the_row (Ruled.the_row Install.the_row) Edition.the_row counted.ghosts
     absorb.ghosts
     (ruled.ghosts Edition.the_row Install.the_row Edition.the_row counted.ghosts ruled.no_dict absorb.ghosts ruled.no_dict ruled.no_dict)
 
--- The type of a board's writer, by the type and the lifetime of what it waits by.
+-- The type of a board's writer, which holds a publisher. `wait` and `lifetime` are those of the publisher.
 abbrev pub writer_type : NamedLft → RattleType → RattleType
 writer_type lifetime wait = Writer.the_row lifetime wait

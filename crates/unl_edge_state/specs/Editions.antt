@@ -1,12 +1,12 @@
--- The published board, and its changes.
+-- The published board, and its changes. Each change is an install: a new token book, or a new version of the environment at a slot.
 use Rattle.std.specs.Prelude.{ℕ, ◌+◌, Bool, true, false, [], option_map, unwrap_or}
 use Rattle.unl_core.specs.declared.board.Board.{Board}
 use Rattle.unl_core.specs.declared.board.Install.{Install}
 use Rattle.unl_core.specs.Board.{board_after, installed}
 use Rattle.unl_publication.specs.declared.knowledge.Knowledge.{Knowledge}
 
--- A board, the number of installs that led to it, and whether the publication is orderly: each version that is installed is
--- then the next one at its slot.
+-- A board, the number of installs that led to it (its front), and whether the publication is orderly. In an orderly publication,
+-- each version that is installed at a slot results from the slot's current version by one batch of changes.
 pub record BoardAt : Type 0 where
   pub board : Board
   pub front : ℕ
@@ -24,7 +24,7 @@ opening_at board = opening_of false board
 abbrev pub orderly_opening : Board → BoardAt
 orderly_opening board = opening_of true board
 
--- The board after one more install.
+-- The board and its front after one more install.
 abbrev pub edited : BoardAt → Install → BoardAt
 edited old what = record { board = installed what old.board; front = old.front + 1; orderly = old.orderly }
 
@@ -32,6 +32,6 @@ edited old what = record { board = installed what old.board; front = old.front +
 abbrev pub no_board : Board
 no_board = record { boot = 0; host = []; generation = 0; book = []; slots = [] }
 
--- The published board as it is known: the opening board after all known installs.
+-- The published board as it is known: the opening board after all known installs, or `no_board` if no opening board is known.
 abbrev pub board_known : Knowledge BoardAt Install → Board
 board_known known = unwrap_or (option_map (λ opening. board_after opening.board known.installs) known.opening) no_board

@@ -1,4 +1,5 @@
--- The versions that a slot has had since the opening board, as revisions of a line of histories.
+-- The versions that a slot of the board has had since the opening board. Each is a revision of a line: the list of the histories
+-- of all epochs.
 use Rattle.std.specs.Prelude.{ℕ, List, [], ◌∷◌, IfSome}
 use Rattle.unl_core.specs.declared.board.Board.{Board}
 use Rattle.unl_core.specs.declared.board.Install.{Install}
@@ -9,7 +10,7 @@ use Rattle.unl_delta.specs.View.{Sees}
 use Rattle.unl_edge_state.specs.Editions.{BoardAt}
 use Rattle.unl_publication.specs.declared.knowledge.Knowledge.{Knowledge}
 
--- The version at a slot, if there is one, is a revision of the line, filtered by `sees`.
+-- The version at a slot, if there is one, is a revision of the line, with only the projects that are visible by `sees`.
 abbrev pub SlotRepresented : List Era → Sees → ℕ → Board → Type 0
 SlotRepresented line sees slot board = IfSome (snapshot_at board.slots slot) (RepresentsLine line sees)
 

@@ -1,4 +1,5 @@
--- What a writer of the board has published, and the places that it keeps.
+-- What a writer of the board has published, and the places that it keeps. An install is one published change of the board. The place
+-- of a slot has the slot's version, and whether the slot is held: it then ignores changes until a whole state (a hydration) applies.
 use Rattle.std.specs.Prelude.{◌≡◌, ℕ, ◌<◌, [], ◌∷◌, List, length, Bool, true, ⊤, is_some, slice_set, Option, Some, false, IfSome}
 use Rattle.unl_core.specs.declared.board.Install.{Install}
 use Rattle.unl_core.specs.declared.board.Install.TheVariants.{Tokens, Env}
@@ -19,7 +20,7 @@ pub record Writing : Type 0 where
   pub places : List Place
   pub closed : Bool
 
--- The invariant of a writer: it began with a board, and each place has the version of its slot on the published board.
+-- The invariant of a writer: its opening board is known, and each place has the version of its slot on the published board.
 pub record IsWriting (known : Knowledge BoardAt Install) (places : List Place) : Type 0 where
   pub begun : is_some known.opening ≡ true
   pub represents : PlacesMatch (board_known known) places
@@ -28,8 +29,8 @@ pub record IsWriting (known : Knowledge BoardAt Install) (places : List Place) :
 abbrev pub installed_by : Writing → Installed
 installed_by w = record { places = w.places; front = length w.known.installs; book = (board_known w.known).book }
 
--- The installs lead from the opening board to what is installed: the front is their number, and the book and the version of each
--- place are those of the board after them.
+-- `installed` is the state after the opening board and these installs: its front is the number of the installs, and its book and the
+-- version of each place are those of the board after them. `edition` is the opening board; if it is `None`, only the front is claimed.
 pub record LeadsTo (edition : Option BoardAt) (installs : List Install) (installed : Installed) : Type 0 where
   pub front : installed.front ≡ length installs
   pub book : IfSome edition (λ opening. installed.book ≡ (board_after opening.board installs).book)

@@ -17,8 +17,8 @@ use unl_core::{Board, Install, Slot, places_at};
 use unl_documents::{List, Memory, Text, TryClone};
 use unl_publication::{Ruled, Writer, new_reader};
 
-/// Creates a writer of a board that takes any install, and `readers` readers that know only the opening board. There is room
-/// for one list per reader that the writer has reported and the reader has not learned yet.
+/// Creates a writer of a board that takes any install, and `readers` readers that know only the opening board. There is
+/// also room for `readers` lists that the writer has reported and no reader has learned yet.
 ///
 /// # Errors
 ///
@@ -42,8 +42,8 @@ pub fn begin<'a, W: Wait>(
     begin_with(rt, alloc, board, readers, false)
 }
 
-/// As `begin`, but the publication is orderly: each version that is installed must be the next one at its slot, after a batch
-/// that applies there. So no reader sees an older version at a larger front.
+/// As `begin`, but the publication is orderly: each version that is installed must be the next one at its slot, after a
+/// batch that applies there. So no reader sees an older version at a larger front.
 ///
 /// # Errors
 ///
@@ -108,7 +108,7 @@ fn begin_with<'a, W: Wait>(
     }
 }
 
-/// `count` readers that know what the writer knows.
+/// Creates `count` readers that know what the writer knows.
 fn readers_at(
     alloc: Global,
     writer: &mut Writer<Edition, Install, Ruled<Install>>,
@@ -138,7 +138,7 @@ fn reader_at(writer: &mut Writer<Edition, Install, Ruled<Install>>) -> Result<Ed
     Ok(EdgeReader::new(seat))
 }
 
-/// Copies a board. What the board shares stays shared.
+/// Copies a board. The copy shares the board's token book and snapshots.
 fn copy_of(alloc: Global, board: &Board) -> Result<Board, Memory>
     ensures { IfOk result (λ copy. copy ≡ board.now) }
 {

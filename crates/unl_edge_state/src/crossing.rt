@@ -1,5 +1,6 @@
-//! Proofs that a reader and a writer can be sent to another thread. One proof search over all types that a board consists of times
-//! out, so it goes in steps: first an edition, then the reader or writer of `left_right` over editions, then that of the edge.
+//! Proofs that the reader and the writer of the edge's published boards can be sent to another thread. One proof search
+//! over all types that a board consists of times out, so the proof has steps: first an edition (a board and the number
+//! of installs that led to it), then the reader or writer of `left_right` over editions, then that of the edge.
 ghost use denote.Ref.{NamedLft};
 ghost use Rattle.std.specs.Thread.{IsSend, IsSync};
 ghost use Rattle.unl_core.specs.contracts.board.Install as InstallType;
@@ -101,8 +102,8 @@ fn place_send()
     send_of::<Place>()
 }
 
-/// A writer can be sent to another thread, if threads can share what it waits by. A caller that sends one calls this
-/// first, to have the fact. Does nothing at run time.
+/// A writer can be sent to another thread, if its runtime `W`, with which it waits, is `Sync`. A caller that sends one
+/// calls this first, to have the fact. Does nothing at run time.
 pub fn writers_are_send<W: Wait + Sync>()
     ensures { (lifetime : NamedLft) → IsSend (writer_type lifetime W.row) }
 {

@@ -34,8 +34,8 @@ impl Model for Edition {
 }
 
 impl Edition {
-    /// An opening board, before any install. In an orderly publication each version that is installed is the next one at its
-    /// slot; in another one any install may come.
+    /// Creates the opening edition, before any install. In an orderly publication each version that is installed is the
+    /// next one at its slot; otherwise any install may come.
     pub fn new(board: Board, orderly: bool) -> Edition
         requires { AreSlots board.slots }
         ensures { result ≡ opening_of orderly board }

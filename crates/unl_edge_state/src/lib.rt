@@ -1,5 +1,7 @@
-//! The board of an edge. One writer publishes what is installed on it, and desks on other threads answer over what was
-//! published, without waiting.
+//! The board of an edge: the known tokens and the current version of each environment. Requests are answered from it.
+//! An install is one change of the board. One writer publishes each install. Readers on other threads implement the
+//! trait of desks: they answer requests from the board that was published last, and never wait. The front of a board is
+//! the number of installs that led to it.
 #![tactic(auto)]
 
 mod beginning;

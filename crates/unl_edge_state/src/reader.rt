@@ -1,4 +1,4 @@
-//! A desk that answers over the board published when it looks.
+//! A desk that answers each request from the board that is published at that moment.
 ghost use Rattle.std.specs.Prelude.{max, ◌≡◌, ◌≤◌, true, is_some, unwrap_or, option_map, IfSome};
 ghost use Rattle.std.specs.Prelude.{OnErr, OnOk, Some};
 ghost use Rattle.std.specs.Result.{is_ok};
@@ -17,12 +17,15 @@ use unl_documents::Memory;
 use unl_http_api::Request;
 use unl_publication::{Reader, Ruled};
 
-/// What a writer knew at one moment, for one reader to learn.
+/// A report of the writer at one moment, which one reader takes with `learn` or `learn_all`. It has the number of
+/// published installs (changes of the board) and, if there was room for it, their list.
 pub type Told = unl_publication::Told<Edition, Install, Ruled<Install>>;
 
-/// A desk over what one writer publishes. It looks once for each answer, and never waits.
+/// A desk that answers requests from the boards that one writer publishes. It looks at the published board once for
+/// each answer, and never waits.
 #[derive(Drop)]
 pub struct EdgeReader {
+    /// The reader. It is `None` only while a call passes it by value.
     pub(crate) seat: Option<Reader<Edition, Install, Ruled<Install>>>,
     ghost has_opening: { is_some (unwrap_or (option_map next seat) knows_nothing).opening ≡ true },
 }
@@ -31,7 +34,7 @@ impl EdgeReader {
     ghost use Rattle.unl_edge_state.specs.Reading.{continuation_of, past_of, seen_by, learned_front_of};
     ghost use Rattle.unl_edge_state.specs.Reading.{StartsReader, IsNewReader};
 
-    /// A desk over a reader that knows the opening board.
+    /// Creates a desk from a reader that knows the opening board.
     pub(crate) fn new(seat: Reader<Edition, Install, Ruled<Install>>) -> EdgeReader
         requires { is_some (next seat).opening ≡ true }
         ensures { result.seat ≡ Some seat }
@@ -39,9 +42,9 @@ impl EdgeReader {
         EdgeReader { seat: Some(seat) }
     }
 
-    /// Learns what the writer knew when it made `told`. Each later front is at least the one in `told`, and what was known
-    /// stays known. If `told` has more installs than the reader knows, and has their list, the list that the reader takes
-    /// next starts with that one. Doesn't allocate.
+    /// Learns from `told`, which the writer's `tell` returned. Each later answer is from a board after at least as many
+    /// installs as `told` counts. What the reader knew stays known. If `told` counts more installs than the reader
+    /// knows, and has their list, the next list that the reader takes starts with that list. Doesn't allocate.
     pub fn learn(&mut self, told: Told)
         requires origin { IfSome (reported_list told) (λ list. SameOrigin list (continuation_of self.old)) }
         ensures origin { SameOrigin (continuation_of self.new) (continuation_of self.old) }
@@ -58,12 +61,12 @@ impl EdgeReader {
         self.seat = Some(seat);
     }
 
-    /// Learns what the writer knew when it made `told`, with its list. A new reader then continues from exactly the installs of
-    /// that list. Doesn't allocate.
+    /// Learns from `told` as `learn` does, but requires its list. A new reader then continues from exactly the installs
+    /// of that list. Doesn't allocate.
     ///
     /// # Errors
     ///
-    /// Fails exactly if `told` has no list. Nothing is learned then.
+    /// `Memory` exactly if `told` has no list. Nothing is learned then.
     pub fn learn_all(&mut self, told: Told) -> Result<(), Memory>
         requires origin { IfSome (reported_list told) (λ list. SameOrigin list (continuation_of self.old)) }
         ensures list { is_ok result ≡ is_some (reported_list told) }
@@ -108,12 +111,12 @@ impl Desk for EdgeReader {
 
     ghost continues = { λ reader. ContinuesFrom (past_of reader) (continuation_of reader) };
 
-    /// Answers over the board that is published when it looks.
+    /// Looks at the published board and answers the request from it. Returns the front of that board and the answer.
     ///
     /// # Errors
     ///
-    /// Fails if it runs out of memory for the answer, if it could not look (`left_right` gives no reason for that), or if it saw fewer
-    /// publications than it has learned of.
+    /// `Memory` if the answer runs out of memory, if `left_right` refused the look (it gives no cause), or if the board
+    /// has fewer installs than the reader has learned of.
     fn answer(
         &mut self,
         alloc: Global,
@@ -130,20 +133,23 @@ impl Desk for EdgeReader {
         ensures entered { IfOk result (λ a. Enters (Some (seen_by self.old).fronts) (a.0 ∷ []) (Some (seen_by self.new).fronts)) }
         ensures unanswered { OnErr result (EntersAtMostOnce (Some (seen_by self.old).fronts) (Some (seen_by self.new).fronts)) }
 
-        // The answer is over the opening board after all installs of the list that it took. The front is their number.
+        // The answer is from the opening board after all installs of the list that the reader took. The front is their
+        // number.
         ensures over { IfOk result (λ a. a.1 ≡ answer_of (board_known (seen_by self.new)) request.now draw.entry.now) }
 
-        // In an orderly publication the list that it took is orderly.
+        // If the publication is orderly, so is the list that the reader took: each of its installs may come next on the
+        // board after the installs before it.
         ensures orderly { IfOk result (λ _. KeepsOrder (seen_by self.new)) }
 
-        // The list that it took starts with the one it continues from, and has no fewer installs than it has learned of.
+        // The list that the reader took starts with the list that it continued from, and has at least as many installs
+        // as the reader has learned of.
         ensures list { IfOk result (λ _. StartsWith (seen_by self.new).installs (continuation_of self.old).installs) }
         ensures at_least_learned { IfOk result (λ a. learned_front_of self.old ≤ a.0) }
         ensures next { IfOk result (λ _. continuation_of self.new ≡ seen_by self.new) }
         ensures origin { SameOrigin (continuation_of self.new) (continuation_of self.old) }
         ensures same_learned_front { learned_front_of self.new ≡ learned_front_of self.old }
 
-        // Whether it answered or not, either it knows what it knew before, or it took a list.
+        // Whether it answered or not, the reader is unchanged or took a list.
         ensures stays_or_takes { StaysOrTakes edited (past_of self.old) (continuation_of self.old)
             (past_of self.new) (continuation_of self.new) }
     {

@@ -1,4 +1,4 @@
-//! The writer, which publishes what is installed on a board.
+//! The writer of a board, which publishes each install on it.
 ghost use Rattle.std.specs.Prelude.{◌≡◌, ◌-◌, ◌^◌, ◌<◌, List, true, false, length, IfOk, IfNone, IfSome, IsErr, OnErr, OnOk};
 ghost use Rattle.std.specs.Prelude.{OnSome};
 ghost use Rattle.unl_core.specs.declared.board.Install.TheVariants.{Env, Tokens};
@@ -30,8 +30,8 @@ use unl_documents::{Memory, Shared};
 use unl_publication::{Counted, Publisher, Ruled, Writer};
 use unl_tokens::Book;
 
-/// Publishes what is installed on a board, and keeps the place of each slot: its version, and whether it is held. It
-/// isn't `Drop`: close it with `end`, once its readers have ended.
+/// Publishes each install on a board, and keeps the place of each slot: the slot's version, and whether the slot is
+/// held until it gets a hydration. It isn't `Drop`: close it with `end`.
 pub struct EdgeWriter<'a, W: Wait> {
     publisher: Publisher<'a, W, Edition, Install, Ruled<Install>>,
     places: Vec<Place>,
@@ -53,7 +53,7 @@ impl<'a, W: Wait> Model for EdgeWriter<'a, W> {
 }
 
 impl<'a, W: Wait> EdgeWriter<'a, W> {
-    /// A writer over a publication, with the places of its slots.
+    /// Creates a writer from the writer of a publication and the places of the board's slots.
     pub(crate) fn over(
         rt: &'a W,
         writer: Writer<Edition, Install, Ruled<Install>>,
@@ -76,13 +76,14 @@ impl<'a, W: Wait> EdgeWriter<'a, W> {
         self.publisher.value().board()
     }
 
-    /// Publishes an install and returns the new front. If the publication is orderly, the install has to follow the published
-    /// board. Whether a slot is held doesn't change. Waits for readers that still look at an older board.
+    /// Publishes an install and returns the new front: the number of installs published so far. If the publication is
+    /// orderly, a version that is installed has to be the next one at its slot on the published board. Whether a slot
+    /// is held doesn't change. Waits for readers that still look at an older board.
     ///
     /// # Errors
     ///
-    /// Fails if it runs out of memory. Nothing is published then. If this happens after the install was logged, every later
-    /// call fails too.
+    /// Fails if it runs out of memory. Nothing is published then. If this happens after the install was logged, every
+    /// later call fails too.
     pub fn publish(&mut self, alloc: Global, what: Install) -> Result<u64, Memory>
         requires front { length self.old.known.installs < 2 ^ 64 - 1 }
         requires within { HasSlotBelow what (length self.old.places) }
@@ -102,7 +103,8 @@ impl<'a, W: Wait> EdgeWriter<'a, W> {
         }
     }
 
-    /// What the writer knows now, for one reader to learn. Changes nothing, and doesn't allocate.
+    /// Returns what one reader can learn now: the number of published installs and, if there is room for one more
+    /// reader, their list. Changes nothing, and doesn't allocate.
     pub fn tell(&mut self) -> Told
         ensures same { self.new ≡ self.old }
         ensures front { reported_front result ≡ length self.old.known.installs }
@@ -111,7 +113,8 @@ impl<'a, W: Wait> EdgeWriter<'a, W> {
         self.publisher.tell()
     }
 
-    /// The published installs lead to what is installed. A caller that needs this fact calls it. Does nothing at run time.
+    /// Proves that the published installs lead from the opening board to the writer's places and token book. A caller
+    /// calls it to have this fact. Does nothing at run time.
     pub fn leads_here(&self)
         ensures { LeadsTo self.now.known.opening self.now.known.installs (installed_by self.now) }
     {
@@ -139,7 +142,8 @@ impl<'a, W: Wait> EdgeWriter<'a, W> {
         Ok(self.publisher.publish(Install::Tokens(book))?)
     }
 
-    /// Publishes a version at a slot, and sets whether the slot is held. In an orderly publication it follows the one there.
+    /// Publishes a version at a slot, and sets whether the slot is held. In an orderly publication the version has to
+    /// follow the slot's current one.
     fn publish_version(
         &mut self,
         alloc: Global,
