@@ -1,4 +1,5 @@
-//! Tests of toggles as a value; the commands print them directly as text.
+//! Tests of the toggles of a snapshot as a JSON value. The commands print toggles directly as text, so no command
+//! covers this.
 ghost use Rattle.std.specs.Prelude.{IfSome};
 ghost use Rattle.unl_delta.specs.Valid.{IsValidBatch};
 
@@ -9,17 +10,20 @@ use unl_delta::{Batch, Place, Verdict, apply, read_batch_bytes, verdict};
 use unl_strategies::Moment;
 use unl_tokens::Projects;
 
+/// A batch with one hydration: three features, one of which depends on another.
 const STATE: &str = r#"{"events":[{"type":"hydration","eventId":1,"features":[
     {"name":"child","enabled":true,"dependencies":[{"feature":"named"}]},
     {"name":"named","enabled":true,"variants":[{"name":"v","weight":1,"payload":{"type":"string","value":"w"}}]},
     {"name":"off","enabled":false}]}]}"#;
 
+/// Parses the batch.
 fn batch(alloc: Global) -> Option<Batch>
     ensures { IfSome result IsValidBatch }
 {
     read_batch_bytes(alloc, STATE.as_bytes(), None).ok()
 }
 
+/// Applies the batch to an empty place and compiles the version.
 fn snapshot(alloc: Global) -> Option<Snapshot> {
     let place = Place {
         version: None,
@@ -38,7 +42,7 @@ const MOMENT: Moment<'static> = Moment {
     host: "",
 };
 
-/// Returns the text of the value of all toggles.
+/// Returns the JSON text of all toggles, by way of their JSON value.
 fn text_of_value(alloc: Global, snapshot: &Snapshot, context: &Context) -> Option<String> {
     let value = snapshot
         .toggles(alloc, &Projects::All, true, context, &MOMENT)
@@ -46,7 +50,7 @@ fn text_of_value(alloc: Global, snapshot: &Snapshot, context: &Context) -> Optio
     value.to_string(alloc).ok()
 }
 
-/// Returns whether all toggles as text are the text of their value.
+/// Returns whether all toggles printed directly as text equal the text of their JSON value.
 fn is_same(alloc: Global, snapshot: &Snapshot, context: &Context) -> Option<bool> {
     let text = snapshot
         .toggles_text(alloc, &Projects::All, true, context, &MOMENT)
@@ -54,7 +58,7 @@ fn is_same(alloc: Global, snapshot: &Snapshot, context: &Context) -> Option<bool
     Some(text.as_slice() == text_of_value(alloc, snapshot, context)?.as_bytes())
 }
 
-/// Returns whether this is so for a context without fields.
+/// Runs [`is_same`] with a context without fields.
 fn is_text_of_value(alloc: Global) -> Option<bool> {
     let context = Context::read_query(alloc, b"").ok()?;
     is_same(alloc, &snapshot(alloc)?, &context)

@@ -1,4 +1,5 @@
-//! Tests of feeds as a value (the commands print them directly as text), and of single documents.
+//! Tests of feeds as a JSON value (the commands print them directly as text), and of documents that are parsed on their
+//! own.
 ghost use Rattle.unl_documents.specs.States.{IsValidState};
 
 use serde_json::Value;
@@ -16,7 +17,7 @@ fn list_of(alloc: Global, text: &str) -> Result<List<Text>, Memory> {
     Ok(list)
 }
 
-/// Returns the head of a feed with one project.
+/// Returns the head of the feed `FEED`, with the given epoch.
 fn head_of(alloc: Global, epoch: u64) -> Result<FeedHead, Memory> {
     Ok(FeedHead {
         environment: Text::new(alloc, "dev")?,
@@ -27,7 +28,7 @@ fn head_of(alloc: Global, epoch: u64) -> Result<FeedHead, Memory> {
     })
 }
 
-/// Returns the text of a feed with the state and the epoch of this one, and with a copy of such a head.
+/// Writes a feed with the state and the epoch of the given one, and a copy of the head of `FEED`. Returns its text.
 fn text_of(alloc: Global, feed: &Feed) -> Result<String, Memory>
     requires { IsValidState feed.now.state }
 {
@@ -36,6 +37,7 @@ fn text_of(alloc: Global, feed: &Feed) -> Result<String, Memory>
     Ok(written.to_string(alloc)?)
 }
 
+/// A feed in the form in which it is written: keys in byte order, without whitespace.
 const FEED: &str = concat!(
     r#"{"features":[{"dependencies":[],"enabled":false,"impressionData":false,"name":"a","project":"default","#,
     r#""stale":false,"strategies":[],"type":"release","variants":[]}],"meta":{"epoch":3,"etag":"t","#,
@@ -43,7 +45,7 @@ const FEED: &str = concat!(
     r#""version":2}"#,
 );
 
-/// Returns whether a copy of the feed is written exactly as the feed was read.
+/// Returns whether parsing the feed, copying it and writing the copy results in the same text.
 fn is_written_so(alloc: Global) -> Option<bool> {
     let feed = read_feed(alloc, FEED.as_bytes()).ok()?.copy(alloc).ok()?;
     let text = text_of(alloc, &feed).ok()?;

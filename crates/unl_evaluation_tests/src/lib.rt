@@ -1,4 +1,4 @@
-//! Tests of the endpoints, of documents and of their evaluation, for results of calls that no command prints.
+//! Tests of evaluation, documents and in-memory streams. They cover results of calls that no command prints.
 #![tactic(auto)]
 
 #[cfg(test)]

@@ -1,8 +1,8 @@
-//! Tests of the faults in metrics reports.
+//! Tests of the faults of metrics reports.
 use unl_documents::Field;
 use unl_metrics::{BadReport, Report};
 
-/// Reports of one app and their faults, which the program does not distinguish.
+/// Invalid reports of one app, each with its fault. The program itself does not print which fault it is.
 const OF_APPS: [(&str, BadReport); 23] = [
     ("{", BadReport::NotJson),
     ("[]", BadReport::NotJson),
@@ -94,7 +94,7 @@ fn faults_of_an_app_are_named(rt: HostRuntime) {
     }
 }
 
-/// Bulk reports and their faults.
+/// Invalid bulk reports, each with its fault.
 const OF_BULKS: [(&str, BadReport); 9] = [
     ("7", BadReport::NotJson),
     (r#"{"applications":7}"#, BadReport::Missing(Field::Metrics)),

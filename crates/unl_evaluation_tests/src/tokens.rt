@@ -1,9 +1,9 @@
-//! Tests of the faults of tokens, of copying books, and of writing requests for tokens.
+//! Tests of the faults of tokens, of copies of books, and of requests for tokens.
 use std::alloc::Global;
 use unl_documents::TryClone;
 use unl_tokens::{BadToken, Book, Scope, read_request, write_request};
 
-/// Texts that are not tokens, each with its fault. A book does not distinguish these.
+/// Texts that are not tokens, each with its fault. The error of a book does not tell these faults apart.
 const NO_TOKENS: [(&str, BadToken); 8] = [
     ("ab", BadToken::NoColon),
     ("", BadToken::NoColon),
@@ -28,13 +28,13 @@ const BOOK: &str =
 
 const ASKED: &str = r#"{"tokens":["*:dev.f"]}"#;
 
-/// Returns whether a copy of a book has the same tokens.
+/// Returns whether a copy of a book has the same tokens as the book.
 fn copy_is_same(alloc: Global) -> Option<bool> {
     let book = Book::read(alloc, BOOK.as_bytes()).ok()?;
     Some(book.copy(alloc).ok()?.is_same(&book))
 }
 
-/// Returns whether a request for tokens is written exactly as it was read.
+/// Returns whether parsing a request for tokens and writing it again results in the same text.
 fn is_written_so(alloc: Global) -> Option<bool> {
     let asked = read_request(alloc, ASKED.as_bytes()).ok()?;
     let request = write_request(alloc, &asked).ok()?;

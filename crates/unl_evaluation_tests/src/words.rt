@@ -1,8 +1,8 @@
-//! Tests of reading arguments, with the values of all options.
+//! Tests of parsing command-line arguments, with the values of all options.
 use std::alloc::Global;
 use unl_words::read_words;
 
-/// Returns the debug text of the arguments in a line, which are separated by single spaces.
+/// Parses a command line whose arguments are separated by single spaces, and returns the debug text of the result.
 fn shown(alloc: Global, line: &str) -> Option<String> {
     let mut words = Vec::new(alloc);
     for word in line.split(' ') {
@@ -11,7 +11,8 @@ fn shown(alloc: Global, line: &str) -> Option<String> {
     format!(in alloc; "{:?}", read_words(alloc, &words)).ok()
 }
 
-/// Lines with only the required options, lines with all options, and the debug text of each.
+/// Command lines with only the required options, and command lines with all options, each with the debug text of the
+/// parsed values.
 const LINES: [(&str, &str); 6] = [
     (
         "edge --upstream up:4242 --upstream-tokens *:dev.s --tokens []:dev.t",
