@@ -1,2 +1,2 @@
--- How explaining an input ends if the input is refused.
+-- The effect of explaining an input that is refused.
 use Rattle.unl_input.specs.declared.refusal.InputRefusal.TheVariants as refusal

@@ -45,7 +45,7 @@ parent_variant cause.Absent = None
 parent_variant cause.HasParents = None
 parent_variant cause.Off = None
 
--- The JSON form of a parent.
+-- The JSON form of the result for a parent.
 unfoldable pub parent_data : ParentReason → Data
 parent_data p = object (
     with_some field.Variant (option_map string (parent_variant p.cause)) (
@@ -54,7 +54,7 @@ parent_data p = object (
     put (codes "met") (boolean p.met)
     no_members))))
 
--- The JSON form of a segment that a strategy refers to.
+-- The JSON form of the result for a segment that a strategy refers to.
 unfoldable pub segment_data : SegmentReason → Data
 segment_data s = object (
     with field.Constraints (list_data boolean s.constraints) (
@@ -62,7 +62,7 @@ segment_data s = object (
     with field.Id (count s.id)
     no_members)))
 
--- The JSON form of a strategy.
+-- The JSON form of the result for a strategy.
 unfoldable pub strategy_data : StrategyReason → Data
 strategy_data s = object (
     put (codes "active") (boolean s.active) (
@@ -72,7 +72,7 @@ strategy_data s = object (
     with field.Segments (list_data segment_data s.segments)
     no_members)))))
 
--- The word for where a variant comes from.
+-- The word for the origin of a variant.
 abbrev pub origin_text : Origin → List ℕ
 origin_text origin.NoVariant = codes "none"
 origin_text origin.Strategy = codes "strategy"

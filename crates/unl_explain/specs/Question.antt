@@ -1,5 +1,5 @@
--- How a question is read: each key in order, with its kind. It asks why a feature of a state is on or off for a context at a
--- moment.
+-- How a question is parsed: each key in order, with its kind. A question asks why a feature of a state is on or off for a
+-- context at a moment.
 use Rattle.std.specs.Prelude.{ℕ, List, Ok, ok_or}
 use Rattle.serde_json.specs.Data.{Data}
 use Rattle.unl_documents.specs.declared.fault.BadDocument.TheVariants.{NotJson}
@@ -11,11 +11,11 @@ use Rattle.unl_documents.specs.States.{IsValidState, state_of}
 use Rattle.unl_explain.specs.declared.question.Question.{Question}
 use Rattle.unl_input.specs.Contexts.{context_in}
 
--- The latest moment, in milliseconds since 1970.
+-- The latest time that is accepted, in milliseconds since 1970.
 abbrev pub last_moment : ℕ
 last_moment = 100000000000000
 
--- The question that a JSON object spells.
+-- The question that is parsed from a JSON object, or the first fault of its keys.
 unfoldable pub question_of : Data → Reading Question
 question_of value = do
   state ← required (object_of state_of) field.State value
@@ -25,7 +25,7 @@ question_of value = do
   word ← defaulted 0 any_whole field.Word value
   Ok (record { state = state; feature = feature; context = context; now = now; word = word })
 
--- The question that an input spells.
+-- The question that is parsed from an input, or its first fault.
 unfoldable pub question_in : List ℕ → Reading Question
 question_in bytes = ok_or (json_of bytes) NotJson >>= document question_of
 

@@ -1,4 +1,4 @@
--- Why a feature is on or off for a context at a moment: the result of each part of its evaluation, in terms of the
+-- The explanation why a feature is on or off for a context at a moment: the result of each part of its evaluation, by the
 -- definitions of the evaluation itself.
 use Rattle.std.specs.Prelude.{ℕ, ◌+◌, List, [], ◌∷◌, map, length, Bool, true, false, ◌==◌, Option, is_some, option_map, option_and_then}
 use Rattle.std.specs.Prelude.{if◌then◌else◌}
@@ -28,7 +28,7 @@ use Rattle.unl_explain.specs.declared.reason.StrategyReason.{StrategyReason}
 
 -- ---- parents
 
--- The status of a parent by its evaluation: off, or on with the name of its variant.
+-- The status of a parent with this evaluation: off, or on with the name of its variant.
 abbrev pub cause_by : Evaluation → ParentCause
 cause_by e = if e.on then cause.On e.variant.name else cause.Off
 
@@ -41,7 +41,7 @@ cause_of segments context moment parent =
 unfoldable pub cause_in : State → Fields → Moment → List ℕ → ParentCause
 cause_in state context moment name = option_map_or (cause_of state.segments context moment) (feature_named name state.features) cause.Absent
 
--- The parent of a dependency: its status, and whether it satisfies the dependency.
+-- The result for the parent of a dependency: its status, and whether it satisfies the dependency.
 unfoldable pub parent_reason : State → Fields → Moment → Dependency → ParentReason
 parent_reason state context moment d = record {
   feature = d.feature;
@@ -55,20 +55,20 @@ parent_reason state context moment d = record {
 unfoldable pub truths_of : List Constraint → Fields → ℕ → List Bool
 truths_of constraints context now = map (λ c. constraint_holds c context now) constraints
 
--- A segment that was found, with whether each of its constraints holds.
+-- The result for a segment that was found: whether each of its constraints holds.
 abbrev pub found_reason : Fields → ℕ → ℕ → Segment → SegmentReason
 found_reason context now id s = record { id = id; found = true; constraints = truths_of s.constraints context now }
 
--- A segment that was not found.
+-- The result for a segment that was not found.
 abbrev pub missing_reason : ℕ → SegmentReason
 missing_reason id = record { id = id; found = false; constraints = [] }
 
--- The segment with the given id, to which a strategy refers.
+-- The result for the segment with the given id, to which a strategy refers.
 unfoldable pub segment_reason : List Segment → Fields → ℕ → ℕ → SegmentReason
 segment_reason segments context now id = option_map_or (found_reason context now id) (segment_with id segments) (missing_reason id)
 
--- A strategy at its index in the feature with the given name: its constraints, its segments, its own rule, and whether it is
--- active.
+-- The result for a strategy: its constraints, its segments, its own rule, and whether it is active. `feature` is the name of
+-- its feature, and `place` is its index in the feature.
 unfoldable pub strategy_reason : List ℕ → List Segment → Fields → Moment → ℕ → Strategy → StrategyReason
 strategy_reason feature segments context moment place s = record {
   name = s.name;
@@ -78,7 +78,7 @@ strategy_reason feature segments context moment place s = record {
   active = is_active s feature place segments context moment;
 }
 
--- The strategies in their order, the first of which has the index `place`.
+-- The results for the strategies in their order. The first of them has the index `place`.
 abbrev pub reasons_from : ℕ → List Strategy → List ℕ → List Segment → Fields → Moment → List StrategyReason
 reasons_from place [] feature segments context moment = []
 reasons_from place (s ∷ ss) feature segments context moment =
@@ -86,15 +86,15 @@ reasons_from place (s ∷ ss) feature segments context moment =
 
 -- ---- features
 
--- Where the variant of a feature that is on comes from: the first active strategy, or else the feature's own variants, or
--- neither.
+-- The origin of the variant of a feature that is on: the first active strategy if it gives a variant, or else the feature's own
+-- variants, or neither.
 abbrev pub origin_on : Feature → Fields → Moment → Option ℕ → Origin
 origin_on f context moment first =
     if is_some (option_and_then (strategy_variant f context moment) first) then origin.Strategy else (
     if is_some (own_variant f context moment) then origin.Own else
     origin.NoVariant)
 
--- Where a feature's variant comes from. A feature that is off has none.
+-- The origin of a feature's variant. A feature that is off has no variant.
 unfoldable pub origin_of : Bool → Feature → Fields → Moment → Option ℕ → Origin
 origin_of on f context moment first = if on then origin_on f context moment first else origin.NoVariant
 

@@ -1,4 +1,4 @@
--- The explanation for an input, and how explaining an input ends.
+-- The explanation that is computed for an input, and the text that is sent.
 use Rattle.std.specs.Prelude.{◌≡◌, ℕ, List, [], Option, Result, Ok, Err}
 use Rattle.unl_documents.specs.Reading.{Reading, ◌>>=◌}
 use Rattle.unl_explain.specs.declared.question.Question.{Question}
@@ -12,7 +12,7 @@ use Rattle.unl_input.specs.declared.refusal.InputRefusal.{InputRefusal}
 use Rattle.unl_input.specs.declared.refusal.InputRefusal.TheVariants as refusal
 use Rattle.unl_input.specs.Answer.{InputOutcome, Says, SaysPrefix}
 
--- The explanation for a question. The moment has no host name.
+-- The explanation for a question, or `None` if the state lacks the feature. The host name of the moment is empty.
 abbrev pub answer_to : Question → Option Reason
 answer_to q = reasons_of q.state q.feature q.context (record { now = q.now; word = q.word; host = [] })
 
@@ -22,11 +22,11 @@ explained bytes = do
   question ← question_in bytes
   Ok (explanation_line (answer_to question))
 
--- The text of a line is the line itself.
+-- The line that is sent for an explanation: the line itself.
 abbrev pub as_it_is : List ℕ → List ℕ
 as_it_is line = line
 
--- The fault for a refusal that was reported.
+-- The error for a refusal, which has been sent already.
 abbrev pub fault_of : InputRefusal → ExplainFault
 fault_of (refusal.BadInput fault) = BadInput fault
 fault_of refusal.TooLarge = TooLarge
@@ -40,7 +40,8 @@ abbrev pub PrintsRefusalPrefix : Option (List ℕ) → Option (List ℕ) → Opt
 PrintsRefusalPrefix left left_after old new =
     (outcome : InputOutcome (List ℕ)) × SaysPrefix explained as_it_is outcome left left_after old new
 
--- How explaining an input ends, in terms of the source's remaining bytes and the sink's sent bytes, before and after.
+-- The effect of explaining an input, by its result. `left` and `left_after` are the bytes still to be read from the source
+-- before and after, and `old` and `new` are the bytes sent to the sink before and after. Each is `None` if it is not observable.
 abbrev pub Explains : Result (Unit {0}) ExplainFault → Option (List ℕ) → Option (List ℕ) → Option (List ℕ) → Option (List ℕ) → Type 0
 Explains (Ok u) left left_after old new = (line : List ℕ) × PrintsRefusal (Ok line) left left_after old new
 Explains (Err (BadInput fault)) left left_after old new = PrintsRefusal (Err (refusal.BadInput fault)) left left_after old new

@@ -1,4 +1,4 @@
-//! Explains a feature.
+//! Computes the explanation of a feature: its evaluation and the result of each of its parts.
 ghost use Rattle.std.specs.Prelude.{◌≡◌, IfOk};
 ghost use Rattle.unl_documents.specs.States.{IsValidState};
 ghost use Rattle.unl_documents.specs.Valid.{IsValidFeature};
@@ -14,10 +14,10 @@ use unl_dependencies::{evaluate_feature, feature_named, first_active};
 use unl_documents::{Feature, Memory, State};
 use unl_strategies::Moment;
 
-/// Explains why the feature with the given name is on or off for a context at a moment, in a state whose documents are
-/// within their limits. Returns `Ok(None)` exactly if the state has no feature with that name. The evaluation is that of
-/// `evaluate`. Every dependency and every strategy is explained, even if the feature is off. The only error is out of
-/// memory.
+/// Explains why the feature with the given name is on or off for a context at a moment. The state's documents are
+/// within their limits. Returns `Ok(None)` exactly if the state has no feature with that name. The evaluation in the
+/// explanation equals the result of [`evaluate`](unl_dependencies::evaluate). Every dependency and every strategy is
+/// explained, even if the feature is off. The only error is out of memory.
 #[tactic(auto, unfolding(crate::specs::Reasons::reasons_of))]
 pub fn explain(
     alloc: Global,

@@ -1,5 +1,5 @@
-//! Explains why a feature is on or off for a context at a moment: its evaluation, with the result of each of its parts. Also
-//! reads such a question as an input and writes the explanation as a line of JSON.
+//! Explains why a feature is on or off for a context at a moment. An explanation holds the evaluation and the result of
+//! each of its parts. [`explain_run`] reads such a question from an input and writes the explanation as a line of JSON.
 #![tactic(auto)]
 
 mod explaining;

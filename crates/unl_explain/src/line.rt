@@ -1,4 +1,4 @@
-//! The line of JSON that an explanation is written as.
+//! Converts an explanation to a line of JSON.
 ghost use Rattle.std.specs.Prelude.{◌≡◌, ◌++◌, false, codes, IfOk, OnOk, option_map, string_bytes};
 ghost use Rattle.serde_json.specs.Data.{put as with_key, string};
 ghost use Rattle.serde_json.specs.View.{members_view, view};
@@ -26,6 +26,7 @@ pub(crate) fn explanation_line(alloc: Global, reason: &Option<Reason>) -> Result
     Ok(List::from_vec(line.into_bytes()))
 }
 
+/// Converts an explanation to JSON, or returns null if there is none.
 #[tactic(auto, unfolding(crate::specs::Line::explanation_data))]
 fn explanation_value(alloc: Global, reason: &Option<Reason>) -> Result<Value, Memory>
     ensures written { IfOk result (λ v. view v ≡ explanation_data reason.now) }
@@ -44,13 +45,14 @@ fn plain_text(alloc: Global, value: &Value) -> Result<String, Memory>
     Ok(value.to_string(alloc)?)
 }
 
+/// Appends a line feed.
 fn ended(alloc: Global, text: &str) -> Result<String, AllocError>
     ensures { IfOk result (λ line. string_bytes line ≡ text.now ++ codes "\n") }
 {
     format!(in alloc; "{text}\n")
 }
 
-/// Inserts a value at a key.
+/// Inserts a value at a key of an object.
 fn put_at(
     members: &mut Map<String, Value>,
     alloc: Global,
@@ -98,7 +100,7 @@ fn first_value(first: Option<u32>) -> Value
     }
 }
 
-/// Converts the source of a variant to JSON.
+/// Converts the origin of a variant to JSON: `none`, `strategy` or `own`.
 fn origin_value(alloc: Global, origin: Origin) -> Result<Value, Memory>
     ensures { IfOk result (λ v. view v ≡ string (origin_text origin)) }
 {
@@ -159,7 +161,7 @@ impl ToValue for ParentReason {
     }
 }
 
-/// Converts the status of a parent to JSON.
+/// Converts the status of a parent to JSON: `absent`, `has-parents`, `on` or `off`.
 fn cause_value(alloc: Global, cause: &ParentCause) -> Result<Value, Memory>
     ensures { IfOk result (λ v. view v ≡ string (cause_text cause.now)) }
 {
@@ -171,7 +173,7 @@ fn cause_value(alloc: Global, cause: &ParentCause) -> Result<Value, Memory>
     }
 }
 
-/// Inserts the variant of a parent that is on.
+/// Inserts the name of the variant of a parent that is on. Does nothing for any other status.
 fn put_variant(
     members: &mut Map<String, Value>,
     alloc: Global,

@@ -1,4 +1,4 @@
-//! Explains the dependencies of a feature.
+//! Explains the dependencies of a feature on other features (its parents).
 ghost use Rattle.std.specs.Prelude.{◌≡◌, IfOk, map};
 ghost use Rattle.unl_documents.specs.States.{IsValidState};
 ghost use Rattle.unl_documents.specs.Valid.{IsValidFeature};

@@ -1,4 +1,4 @@
-//! A question: why a feature of a state is on or off for a context at a moment.
+//! The question that an input asks: why is a feature of a state on or off for a context at a moment?
 ghost use Rattle.std.specs.Prelude.{IfOk};
 ghost use Rattle.unl_documents.specs.Reading.{Gives};
 ghost use Rattle.unl_explain.specs.Question.{IsValidQuestion, question_in, question_of};
@@ -13,10 +13,10 @@ use unl_documents::parsing::read_json;
 use unl_documents::{BadDocument, Field, State, Text};
 use unl_input::context_in;
 
-/// The latest moment, in milliseconds since 1970.
+/// The latest time that is accepted, in milliseconds since 1970.
 const LAST_MOMENT: u64 = 100_000_000_000_000;
 
-/// A question: why a feature of a state is on or off.
+/// The question why a feature of a state is on or off, with all inputs of its evaluation.
 #[derive(Drop)]
 pub(crate) struct Question {
     /// The state that contains the feature.
@@ -25,9 +25,9 @@ pub(crate) struct Question {
     pub(crate) feature: Text,
     /// The context that the feature is evaluated for.
     pub(crate) context: Context,
-    /// Milliseconds since 1970.
+    /// The time of the evaluation, in milliseconds since 1970.
     pub(crate) now: u64,
-    /// The word from which random numbers are derived.
+    /// The 64-bit word from which the random numbers of the evaluation are derived.
     pub(crate) word: u64,
 }
 
@@ -53,10 +53,10 @@ impl Document for Question {
     }
 }
 
-/// Reads the question that an input spells.
+/// Parses the question in an input, which is one JSON object.
 ///
 /// # Errors
-/// `NotJson` if the bytes don't spell a JSON object, otherwise the first fault of its keys; or `Memory` if memory ran out.
+/// `NotJson` if the bytes are not JSON, otherwise the first fault of the object; or `Memory` if memory ran out.
 #[tactic(auto, unfolding(crate::specs::Question::question_in))]
 pub(crate) fn question_in(alloc: Global, bytes: &[u8]) -> Result<Question, BadDocument>
     ensures gives { Gives result (question_in bytes.now) }

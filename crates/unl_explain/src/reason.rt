@@ -1,17 +1,18 @@
-//! The parts of an explanation.
+//! The types of an explanation: a result for each part of an evaluation.
 use unl_dependencies::Evaluation;
 use unl_documents::{List, Text};
 
-/// Why a feature is on or off. Every dependency and every strategy is explained, even if the feature is off.
+/// The explanation why a feature is on or off. Every dependency and every strategy is explained, even if the feature is
+/// off.
 #[derive(Debug, Drop)]
 pub struct Reason {
     /// The feature's evaluation.
     pub evaluation: Evaluation,
     /// Whether the feature is enabled in its document.
     pub enabled: bool,
-    /// The parents of the feature's dependencies, in the order of the dependencies.
+    /// The results for the parents of the feature's dependencies, in the order of the dependencies.
     pub parents: List<ParentReason>,
-    /// The feature's strategies, in their order.
+    /// The results for the feature's strategies, in their order.
     pub strategies: List<StrategyReason>,
     /// The index, from 0, of the first active strategy, if there is one.
     pub first: Option<u32>,
@@ -50,7 +51,7 @@ pub struct StrategyReason {
     pub name: Text,
     /// Whether each of the strategy's own constraints holds, in their order.
     pub constraints: List<bool>,
-    /// The segments that the strategy refers to, in their order.
+    /// The results for the segments that the strategy refers to, in their order.
     pub segments: List<SegmentReason>,
     /// Whether the strategy's rule holds, regardless of constraints and segments.
     pub rule: bool,

@@ -20,7 +20,7 @@ use unl_strategies::Moment;
 /// Why an input was not explained.
 #[derive(Debug, Drop, PartialEq, Error)]
 pub enum ExplainFault {
-    /// The input has this fault, its first. It is never `Memory`.
+    /// The first fault of the input. It is never `Memory`.
     #[error("the input is not accepted")]
     BadInput(BadDocument),
     /// The input has more than 16,777,216 bytes.
@@ -37,11 +37,12 @@ pub enum ExplainFault {
     Memory,
 }
 
-/// Explains the question that the source spells.
+/// Reads a question from the source and writes its explanation to the sink.
 ///
-/// Reads the source to its end: one object with a state, the name of a feature, and the context and moment to evaluate it
-/// for. Writes one line of JSON that explains why the feature is on or off, or `null` if the state lacks it. The moment has
-/// no host name. If the input is refused, the line `refused: <cause>` is written instead.
+/// Reads the source to its end. The input is one JSON object with a state, the name of a feature, and the context and
+/// moment to evaluate it for. Writes one line of JSON that explains why the feature is on or off, or `null` if the
+/// state lacks the feature. The host name of the moment is empty. If the input is refused, the line `refused: <cause>`
+/// is written instead.
 ///
 /// # Errors
 /// - `TooLarge` if the input has more than 16,777,216 bytes. The line `refused: <cause>` was written.
@@ -63,7 +64,7 @@ pub fn explain_run<S: Source, K: Sink>(
     ensures write { IsErrOf result ExplainFault.WriteFault → Rose (K.faults sink.old) (K.faults sink.new) }
     ensures source_later { S.faults source.old ≤ S.faults source.new }
     ensures sink_later { K.faults sink.old ≤ K.faults sink.new }
-    // A failed read is never returned as out of memory.
+    // If the result is `Memory`, the fault count of the source is unchanged.
     ensures untouched { IsErrOf result ExplainFault.Memory → S.faults source.new ≡ S.faults source.old }
 {
     match answer_input::<Explaining, S, K>(alloc, &Explaining, source, sink) {
@@ -79,7 +80,7 @@ pub fn explain_run<S: Source, K: Sink>(
     }
 }
 
-/// Converts a refusal that was reported.
+/// Converts a refusal, which has been written already, to the error of [`explain_run`].
 fn fault_of(refusal: InputRefusal) -> ExplainFault
     ensures { result ≡ fault_of refusal }
 {

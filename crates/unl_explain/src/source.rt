@@ -10,8 +10,8 @@ use unl_dependencies::{own_variant, strategy_variant};
 use unl_documents::Feature;
 use unl_strategies::Moment;
 
-/// Returns where the variant of a feature comes from, given whether the feature is on and the index of its first active
-/// strategy. The feature is within its limits.
+/// Returns where the variant of a feature comes from. `on` says whether the feature is on, and `first` is the index of
+/// its first active strategy. The feature is within its limits.
 #[tactic(auto, unfolding(crate::specs::Reasons::origin_of))]
 pub(crate) fn source_of(
     on: bool,

@@ -1,4 +1,4 @@
-//! Explains the strategies of a feature.
+//! Explains the strategies of a feature: whether each constraint, each segment and the rule holds.
 ghost use Rattle.std.specs.Prelude.{◌≡◌, ◌≤◌, IfOk, length, map};
 ghost use Rattle.unl_documents.specs.Valid.{IsValidFeature};
 ghost use Rattle.unl_explain.specs.Reasons.{reasons_from, segment_reason, strategy_reason, truths_of};
@@ -72,7 +72,8 @@ fn explain_strategy(
     })
 }
 
-/// Explains the segments with the given ids. `now` is in milliseconds since 1970.
+/// Returns for each id whether the segment exists, and which of its constraints hold. `now` is in milliseconds since
+/// 1970.
 fn explain_segments(
     alloc: Global,
     ids: &[u64],
@@ -89,7 +90,7 @@ fn explain_segments(
     Ok(reasons)
 }
 
-/// Explains the segment with the given id.
+/// Returns whether the segment with the given id exists, and which of its constraints hold.
 #[tactic(auto, unfolding(crate::specs::Reasons::segment_reason))]
 fn explain_segment(
     alloc: Global,
