@@ -12,7 +12,7 @@ use Rattle.unl_follow.specs.Replica.{Kept, installed_by}
 use Rattle.unl_follow.specs.Run.{AsksOnce}
 use Rattle.unl_follow.specs.Turns.{TurnState, request_at, turned_by, turned_to}
 
--- what is kept, and the tag of the next request
+-- the replica's state, and the tag of the next request
 abbrev kept_state : Kept → Option (List ℕ) → TurnState
 kept_state kept tag = record { installed = installed_by kept; tag = tag }
 

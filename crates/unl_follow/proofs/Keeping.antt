@@ -1,4 +1,4 @@
--- What a refresh preserves of a replica.
+-- The properties of a replica that a refresh preserves.
 use Rattle.std.proofs.Common.{◌≡◌, ◌≤◌, ◌+◌, ℕ, List, Option, Some, None, Result, Ok, Err, IfOk, OnErr, ap, arith}
 use Rattle.std.specs.Option.{option_map}
 use Rattle.std.specs.Prelude.{IfSome}
@@ -19,11 +19,11 @@ use Rattle.unl_refresh.specs.Refresh.{Refreshes, after_verdict}
 use Rattle.unl_refresh.proofs.Leaving.{refreshed_leaves}
 use Rattle.unl_follow.specs.Replica.{Kept, installed_by}
 
--- the replica's view, from its view as an installer
+-- the replica's state, from its state as an `Installer`
 abbrev kept_by : Installed → Kept
 kept_by now = record { place = place_of now 0; front = now.front; book = now.book }
 
--- the view as an installer determines the replica's view
+-- two replicas with the same state as an `Installer` have the same state
 pub same_kept : (one other : Kept) → installed_by one ≡ installed_by other → one ≡ other
 same_kept one other same = ap kept_by same
 

@@ -132,7 +132,7 @@ Reached_begin ask subject start turn_state first = record {
     same_replies None = refl
     same_replies (Some list) = refl
 
--- one more turn, with its text sent by a relation that continues after what was sent in full
+-- one more turn, after turns whose text was sent in full; `Sent` relates what was sent before and after this turn
 turns_more : (Sent : Option (List ℕ) → List ℕ → Option (List ℕ) → Type 0)
     → ((old mid new : Option (List ℕ)) (a b : List ℕ) → Sends old a mid → Sent mid b new → Sent old (a ++ b) new)
     → (ask : Ask) (subject : Subject) (start mid now : Endpoints) (count : ℕ) (turn_state next : TurnState) (reached : Reached ask subject start count turn_state mid)
@@ -178,7 +178,7 @@ Reached_cut ask subject start mid now count turn_state next reached takes =
 
 -- ---- the pace
 
--- `made` turns were made, and each but the first used up one of the pace
+-- `made` turns were made, and each but the first used up one turn of the pace
 pub record Paced (start now : Option ℕ) (made : ℕ) : Type 0 where
   pub left : now ≡ option_map (λ n. n - (made - 1)) start
   pub most : IfSome start (λ n. made ≤ n + 1)
@@ -219,7 +219,7 @@ pace_ended asked made (Some n) mid turns paced many few later known unobservable
     let over : n + 1 ≤ made = grind (arith, nat_tests) in
     omega (arith, many, few, most, over)
 
--- each turn but the first used up one of the pace
+-- one more turn was made, which used up one turn of the pace unless it is the first
 pub went_on : (start mid now : Option ℕ) (made : ℕ) → Paced start mid made → (made ≡ 0 → (true ≡ true) × (now ≡ mid))
     → (0 < made → now ≡ option_map (λ n. n - 1) mid) → (0 < made → IfSome mid (λ n. true ≡ nat_lt 0 n)) → Paced start now (made + 1)
 went_on start mid now zero paced first takes known = Paced_first start mid now zero paced refl (first refl).1
@@ -252,7 +252,8 @@ turn_taken Sent ask subject number turn_state next before after draw outcome lin
       (same ∙ ap (λ (t : TurnEffect). turn_line subject number draw t) asks.turned_so) sends;
 }
 
--- the ask of a turn differs from the run's only in its tag, and makes the request that the run's makes with the current tag
+-- The ask of a turn differs from the ask of the run only in its tag. It makes the request that the run's ask makes with the
+-- current tag.
 of_the_run : (Sent : Option (List ℕ) → List ℕ → Option (List ℕ) → Type 0) (ask asked : Ask) → asked ≡ with_tag asked.tag ask
     → (subject : Subject) (number : ℕ) (turn_state next : TurnState) (before after : Endpoints)
     → TakesTurn Sent asked subject number turn_state before next after → TakesTurn Sent ask subject number turn_state before next after
@@ -264,7 +265,7 @@ of_the_run Sent ask asked same subject number turn_state next before after takes
     at_tag tag turn =
         record { turn = turn.turn; drawn = turn.drawn; meets = turn.meets; represents = turn.represents; sends = turn.sends }
 
--- one more turn, with an ask that differs from the run's only in its tag
+-- one more turn, with an ask that differs from the run's ask only in its tag
 pub Reached_next : (ask asked : Ask) → asked ≡ with_tag asked.tag ask → (subject : Subject) (start mid now : Endpoints) (count : ℕ)
     (turn_state next : TurnState) → Reached ask subject start count turn_state mid → TakesTurn Sends asked subject (count + 1) turn_state mid next now
     → Reached ask subject start (count + 1) next now

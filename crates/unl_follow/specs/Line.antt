@@ -1,4 +1,4 @@
--- The line that a turn prints.
+-- The text of the line that `follow` prints after each turn. In a turn, it polls the server once and then evaluates one feature.
 use Rattle.std.specs.Prelude.{ℕ, ◌==◌, List, ◌++◌, codes, decimal, if◌then◌else◌, Option, Some, None, Result, Ok, Err}
 use Rattle.unl_delta.specs.declared.version.EnvVersion.{EnvVersion}
 use Rattle.unl_dependencies.specs.declared.evaluation.Evaluation.{Evaluation}
@@ -6,7 +6,7 @@ use Rattle.unl_refresh.specs.declared.outcome.Outcome.{Outcome}
 use Rattle.unl_refresh.specs.declared.outcome.Outcome.TheVariants.{Published, Unchanged, Repeat, Old, Gap, Held, Refused, BadAnswer}
 use Rattle.unl_follow.specs.declared.fault.ReplicaRefusal.{ReplicaRefusal}
 
--- the word for the outcome of a turn; without an outcome, the peer failed
+-- the word for the outcome of a turn; `None` means that the connection to the server failed
 abbrev pub word_of : Option Outcome → List ℕ
 word_of None = codes "fault"
 word_of (Some (Published front)) = codes "published"
@@ -18,7 +18,7 @@ word_of (Some Held) = codes "held"
 word_of (Some (Refused status)) = codes "refused " ++ decimal status
 word_of (Some (BadAnswer bad)) = codes "bad"
 
--- a number, preceded by its epoch and a dot unless the epoch is 0
+-- the text of a version number: `EPOCH.NUMBER`, or only `NUMBER` if the epoch is 0
 abbrev pub revision_text : ℕ → ℕ → List ℕ
 revision_text epoch number = if epoch == 0 then decimal number else decimal epoch ++ (codes "." ++ decimal number)
 

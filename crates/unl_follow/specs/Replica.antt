@@ -1,4 +1,5 @@
--- The view of a replica, and what it evaluates to.
+-- The state of a replica in contracts, and the result of an evaluation with it. A replica is a local copy of one environment, which
+-- polls a server for newer versions.
 use Rattle.std.specs.Prelude.{ℕ, List, [], ◌∷◌, Option, Some, None, Result, Ok, Err}
 use Rattle.unl_context.specs.Context.{Fields}
 use Rattle.unl_delta.specs.declared.version.EnvVersion.{EnvVersion}
@@ -12,7 +13,8 @@ use Rattle.unl_tokens.specs.declared.token.Token.{Token}
 use Rattle.unl_follow.specs.declared.fault.ReplicaRefusal.{ReplicaRefusal}
 use Rattle.unl_follow.specs.declared.fault.ReplicaRefusal.TheVariants.{NotReady}
 
--- the one place, the number of publications, and the book
+-- the state of a replica: the place with its newest version (if any), the number of versions and books that were published in it so
+-- far, and its book of tokens
 pub record Kept : Type 0 where
   pub place : Place
   pub front : ℕ
@@ -22,16 +24,16 @@ pub record Kept : Type 0 where
 abbrev pub new_replica : Kept
 new_replica = record { place = empty_place; front = 0; book = [] }
 
--- the same as the view of an installer with only slot 0
+-- the replica's state as that of an `Installer` with one slot, number 0
 abbrev pub installed_by : Kept → Installed
 installed_by kept = record { places = kept.place ∷ []; front = kept.front; book = kept.book }
 
--- the feature that a run evaluates, and the context of the evaluation
+-- the name of the feature that `follow` evaluates after each poll, and the context of the evaluation
 pub record Subject : Type 0 where
   pub feature : List ℕ
   pub context : Fields
 
--- the evaluation over the state of a version; `NotReady` without a version
+-- the evaluation of the feature with this name in the state of the version, or `NotReady` if there is no version
 abbrev pub found_in : Option EnvVersion → List ℕ → Fields → Moment → Result (Option Evaluation) ReplicaRefusal
 found_in None name context moment = Err NotReady
 found_in (Some version) name context moment = Ok (evaluation_of version.state name context moment)

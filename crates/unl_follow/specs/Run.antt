@@ -1,4 +1,5 @@
--- The effect of a run on the endpoints that it is given.
+-- The effect of a run on its endpoints: its peer, its draws and its sink. A run polls a server turn by turn, and prints a line
+-- after each turn. A draw is a time and a random word for one turn.
 use Rattle.std.specs.Prelude.{◌≡◌, ◌≤◌, ℕ, ◌+◌, ◌-◌, ◌^◌, min, List, drop, length, Option, Some, None, option_map}
 use Rattle.std.specs.Prelude.{Result, Ok, Err}
 use Rattle.unl_base.specs.declared.draws.Draw.{Draw}
@@ -13,8 +14,8 @@ use Rattle.unl_follow.specs.Replica.{Subject}
 use Rattle.unl_follow.specs.Turns.{HaveAsked, HaveDrawn, HaveTurned, TurnState, Turn, TurnEffect, follow_text, request_at, turn_line}
 use Rattle.unl_follow.specs.Turns.{turned_to}
 
--- The endpoints of a run: the peer (what it was sent on each connection, and what its next ones give to read) with its count of faults;
--- the draws to come; and what the sink was sent.
+-- The endpoints of a run: the peer (the bytes that were sent to it on each connection, and the replies to come) with its fault
+-- count; the upcoming draws; and the bytes that were sent to the sink.
 pub record Endpoints : Type 0 where
   pub peer : PeerState
   pub faults : ℕ
@@ -23,7 +24,7 @@ pub record Endpoints : Type 0 where
 
 -- ---- one turn
 
--- The peer was sent the request, and the next reply was read; or it failed, after at most one connection.
+-- The request was sent to the peer, and the next reply was read; or the peer failed, after at most one connection.
 abbrev pub MeetsPeer : ReplyOrFault → List ℕ → PeerState → ℕ → PeerState → ℕ → Type 0
 MeetsPeer received request peer faults peer_after faults_after =
     Meets received request (peer_view peer faults) (peer_view peer_after faults_after)
@@ -36,7 +37,7 @@ pub record AsksOnce
   pub meets : MeetsPeer received (request_at ask turn_state) peer faults peer_after faults_after
   pub turned_so : turned ≡ turned_to ask.delta turn_state received
 
--- Turn `number` was made, and its line was sent, as `Sent` says (in full, or a prefix).
+-- Turn `number` was made, and its line was sent. `Sent` decides whether the whole line or only a prefix of it was sent.
 pub record TakesTurn
     (Sent : Option (List ℕ) → List ℕ → Option (List ℕ) → Type 0) (ask : Ask) (subject : Subject) (number : ℕ)
     (turn_state : TurnState) (before : Endpoints) (state_after : TurnState) (after : Endpoints) : Type 0 where
@@ -52,8 +53,8 @@ pub record TakesTurn
 abbrev pub RoseBy : ℕ → ℕ → ℕ → Type 0
 RoseBy m before now = min (before + m) (2 ^ 64 - 1) ≤ now
 
--- These turns of an ask used the replies and draws to come, the peer was sent their requests, and their text was sent, as `Sent`
--- says (in full, or a prefix).
+-- These turns took the upcoming replies and draws in order, their requests were sent to the peer, and their lines were sent to the
+-- sink. `Sent` decides whether the whole text or only a prefix of it was sent.
 pub record Follows
     (Sent : Option (List ℕ) → List ℕ → Option (List ℕ) → Type 0) (ask : Ask) (subject : Subject) (before : Endpoints)
     (turns : List Turn) (after : Endpoints) : Type 0 where
@@ -66,14 +67,14 @@ pub record Follows
   pub drawn : HaveDrawn before.coming turns after.coming
   pub sends : Sent before.sent (follow_text ask.delta subject turns) after.sent
 
--- The number of turns is the smaller of `asked` and what the pace allowed: the first turn, and one for each of the pace.
--- A pace that is not observable always has a next turn, so then it is `asked`.
+-- The number of turns is at most `asked`, and at most `more + 1`, where `more` is the number of turns that remain in the pace. The
+-- first turn does not wait for the pace. If the pace is not observable, it never ends, and the number of turns is `asked`.
 abbrev pub AreAsMany : ℕ → Option ℕ → List Turn → Type 0
 AreAsMany asked None turns = length turns ≡ asked
 AreAsMany asked (Some more) turns = length turns ≡ min asked (more + 1)
 
--- How a run ends: after its turns; after a failed write, with a prefix of some turns' text sent; or out of memory, with the whole
--- lines of some turns sent.
+-- How a run ends. On success all turns were made. After a failed write, a prefix of the text of some turns was sent. If memory
+-- ran out, the whole lines of some turns were sent.
 abbrev pub Runs : {T : Type 0} → ℕ → Option ℕ → Ask → Subject → Endpoints → Result T FollowFault → Endpoints → Type 0
 Runs asked pace ask subject before (Ok done) after =
     (turns : List Turn) × AreAsMany asked pace turns × Follows Sends ask subject before turns after

@@ -11,7 +11,7 @@ use unl_documents as documents;
 /// Why a replica can't evaluate.
 #[derive(Clone, Copy, Debug, PartialEq, Eq, Error)]
 pub enum ReplicaRefusal {
-    /// The place has no version yet.
+    /// No version was received yet.
     #[error("no version yet")]
     NotReady,
     /// Memory ran out.
@@ -27,7 +27,7 @@ impl From<documents::Memory> for ReplicaRefusal {
     }
 }
 
-/// Why a run ended before the line of its last turn was sent.
+/// Why a run of `follow` ended before the line of its last turn was written in full.
 #[derive(Clone, Copy, Debug, PartialEq, Eq, Error)]
 pub enum FollowFault {
     /// The sink failed and incremented its fault count.

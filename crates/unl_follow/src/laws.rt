@@ -1,4 +1,4 @@
-//! A law on a replica that follows a replica.
+//! A property that is proved for a replica that follows another replica. The function here does nothing at run time.
 ghost use Rattle.std.specs.Prelude.{◌≡◌, ◌++◌, List, Some, IfSome, option_map};
 ghost use Rattle.std.specs.List.{AllByRecursion};
 ghost use Rattle.unl_delta.specs.declared.batch.Batch.{Batch};
@@ -9,9 +9,10 @@ ghost use Rattle.unl_delta.specs.View.{Sees, both, view_of};
 
 use unl_delta::laws;
 
-/// A second place applies the answers that a first one gives to a reader who sees some projects. The answers may be dropped,
-/// duplicated and reordered. If the second place has a version, its state is one revision of the line as both see it. Its
-/// epoch and number never fall.
+/// A first replica is sent batches from the histories of one environment (a line, with one history for each epoch). A
+/// second replica applies the answers of the first, which may be filtered by project, dropped, duplicated and
+/// reordered. If the second has a version, its state is one revision of that line, filtered by the projects that both
+/// see. Its epoch and number never decrease.
 pub fn two_hops()
     ensures state { (line : List Era) (sees projects : Sees) (batches answers : List Batch) → IsLine line
         → AllByRecursion (IsSent line sees) batches → AllByRecursion (IsAnswerAfter batches projects) answers

@@ -1,5 +1,5 @@
-//! A replica that follows a server: one place, fed by the server's deltas or feeds, with an evaluation over it ([`Replica`]).
-//! [`follow`] prints one feature's evaluation turn by turn.
+//! A replica of one environment ([`Replica`]): it polls a server for deltas or whole feeds, keeps the newest version,
+//! and evaluates features with it. [`follow`] polls turn by turn and prints after each turn whether one feature is on.
 #![tactic(auto)]
 
 mod fault;

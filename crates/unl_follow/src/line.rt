@@ -1,4 +1,4 @@
-//! The line that a turn prints.
+//! The line that a turn of `follow` (one request to the server) prints.
 ghost use Rattle.std.specs.Prelude.{◌≡◌, ◌++◌, IfOk, codes, decimal, option_map, string_bytes};
 ghost use Rattle.unl_follow.specs.Line.{line_of, number_text, on_text, revision_text, word_of};
 ghost use Rattle.unl_follow.specs.Replica.{found_in};
@@ -12,7 +12,8 @@ use unl_documents::Memory;
 use unl_refresh::Outcome;
 use unl_strategies::Moment;
 
-/// Returns the line of a turn: its number, its outcome, the number of the place's version, and whether the feature is on.
+/// Returns the line of a turn: its number, its outcome, the number of the replica's version, and whether the feature is
+/// on.
 pub(crate) fn line(
     alloc: Global,
     number: u32,
@@ -47,7 +48,7 @@ fn line_of(
     format!(in alloc; "turn {number} {word} number {represents} on {on}\n")
 }
 
-/// Returns the word for the outcome of a turn.
+/// Returns the word for the outcome of a turn. There is no outcome if the peer failed.
 fn word(alloc: Global, outcome: &Option<Outcome>) -> Result<String, AllocError>
     ensures { IfOk result (λ word. string_bytes word ≡ word_of outcome.now) }
 {

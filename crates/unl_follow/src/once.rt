@@ -10,7 +10,8 @@ use std::alloc::Global;
 use unl_base::Peer;
 use unl_refresh::{Ask, Outcome, RefreshFault, refresh_once};
 
-/// Makes one request for what is new, and applies the reply to the replica's place, as `refresh_once` does for a slot.
+/// Makes one request for the changes since the last reply, or for the whole feed, and applies the reply to the replica,
+/// as `refresh_once` does for a slot.
 ///
 /// # Errors
 /// `PeerFault` if the peer can't be connected to, written to or read; `Memory` if out of memory. Nothing is applied then.
@@ -25,7 +26,7 @@ pub fn follow_once<P: Peer>(
     requires token { IsTrue (fits_line ask.old.token) }
     requires tag { IsTrue (fits_if_any ask.old.tag) }
 
-    // What is applied, the next tag, and what is sent.
+    // Determines which version the replica has afterwards, which tag the next request has, and which bytes are sent.
     ensures leaves { RefreshedOnce 0
         (refresh_state (installed_by replica.old) ask.old
         (peer_view (P.state peer.old) (P.Source.faults peer.old)))
@@ -33,7 +34,7 @@ pub fn follow_once<P: Peer>(
         (refresh_state (installed_by replica.new) ask.new
         (peer_view (P.state peer.new) (P.Source.faults peer.new))) }
 
-    // The next of the peer's replies determines the result, and is used up.
+    // The result depends only on the next reply of the peer, which is used up.
     ensures next_reply { TakesNextReply 0
         (refresh_state (installed_by replica.old) ask.old
         (peer_view (P.state peer.old) (P.Source.faults peer.old)))
@@ -41,7 +42,9 @@ pub fn follow_once<P: Peer>(
         (refresh_state (installed_by replica.new) ask.new
         (peer_view (P.state peer.new) (P.Source.faults peer.new))) }
 
-    // If the server sends batches from a line of histories, the place has one revision of that line.
+    // A line is a list of event histories, one for each epoch, in rising order of epochs. If the replica's version is a
+    // revision of a line and the server sends batches from that line, the version afterwards is a revision of it too.
+    // The epoch and the number of the version don't fall.
     ensures delivery { Delivers 0
         (refresh_state (installed_by replica.old) ask.old
         (peer_view (P.state peer.old) (P.Source.faults peer.old)))
@@ -54,7 +57,7 @@ pub fn follow_once<P: Peer>(
     // At most one version is published.
     ensures next_front { replica.new.front ≤ replica.old.front + 1 }
 
-    // `PeerFault` is returned only if the peer's fault count rose, and otherwise it didn't change.
+    // `PeerFault` is returned only if the peer's fault count rose. On all other results the count is unchanged.
     ensures causes { HasPeerCause result (P.Source.faults peer.old) (P.Source.faults peer.new) }
 {
     refresh_once(alloc, replica, 0, ask, peer)

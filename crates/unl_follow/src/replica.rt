@@ -1,4 +1,4 @@
-//! One place with what a server sent, and the evaluation over it.
+//! The `Replica` type: the newest version that a server sent, and evaluation with it.
 ghost use Rattle.std.specs.Prelude.{◌≡◌, option_map};
 ghost use Rattle.unl_documents.specs.Results.{Gives};
 ghost use Rattle.unl_follow.specs.Replica.{found_in, installed_by, new_replica};
@@ -14,7 +14,8 @@ use unl_documents::{Memory, Shared};
 use unl_strategies::Moment;
 use unl_tokens::Book;
 
-/// One place, a book, and the number of publications. The place is slot 0, the only slot.
+/// A place, a book of tokens, and the front, which is the number of publications so far. The place has the newest
+/// version of one environment, and whether it is held. As an [`Installer`] a replica has one slot, number 0.
 #[derive(Drop)]
 pub struct Replica {
     place: Place,
@@ -34,7 +35,7 @@ impl Model for Replica {
 }
 
 impl Replica {
-    /// Returns an empty place and an empty book, at front 0. Doesn't allocate.
+    /// Creates a replica without a version, with an empty book, at front 0. Allocates nothing.
     pub fn new(alloc: Global) -> Replica
         ensures { result ≡ new_replica }
     {
@@ -48,12 +49,12 @@ impl Replica {
         }
     }
 
-    /// Evaluates a feature by name, for a context at a moment, over the state of the place. Returns `Ok(None)` exactly if that
-    /// state has no feature of this name.
+    /// Evaluates the feature with this name, for a context at a moment, in the state of the replica's version. Returns
+    /// `Ok(None)` exactly if that state has no feature of this name.
     ///
     /// # Errors
     ///
-    /// `NotReady` exactly if the place has no version; `Memory` if out of memory.
+    /// `NotReady` exactly if the replica has no version; `Memory` if out of memory.
     pub fn evaluate(
         &self,
         alloc: Global,
@@ -69,7 +70,7 @@ impl Replica {
         Ok(evaluate(alloc, &version.get().state, name, context, moment)?)
     }
 
-    /// Returns the version of the place, if it has one.
+    /// Returns the newest version, if one was received.
     pub fn version(&self) -> Option<&EnvVersion>
         ensures { option_map (λ version. version.now) result ≡ self.now.place.version }
     {

@@ -1,4 +1,4 @@
-//! A run of turns.
+//! Follows a server with a replica for a number of turns, and prints a line after each.
 ghost use Rattle.std.specs.Prelude.{◌≡◌, ◌<◌, ◌≤◌, ◌-◌, true, None, IfNone, IfSome, IsTrue, Err, nat_lt, option_map};
 ghost use Rattle.unl_base.specs.Faults.{Rose};
 ghost use Rattle.unl_follow.specs.Run.{Runs};
@@ -12,16 +12,21 @@ use std::alloc::Global;
 use unl_base::{Draws, Pace, Peer, Sink};
 use unl_refresh::Ask;
 
-/// Follows a server with a new replica for at most `turns` turns, and prints one line about a feature after each. Each turn but
-/// the first waits for the pace; if the pace has no more turns, the run ends. A turn takes one draw, makes one request, and
-/// prints `turn K W number N on B`. K counts from 1. W is the outcome: `published`, `unchanged`, `repeat`, `old`, `gap`,
-/// `held`, `refused` and a status, `bad`, or `fault` if the peer failed. N is the number of the place's version after the turn
-/// (preceded by its epoch and a dot, unless the epoch is 0), or `-`. B is `true`, `false`, or `-` if there is no version or no
-/// such feature. The evaluation is at the draw's moment, on a host without a name.
+/// Follows a server with a new replica for at most `turns` turns, and prints one line about a feature after each turn.
+/// Each turn but the first waits for the pace; if the pace has no more turns, the run ends. A turn takes one draw (a
+/// time and a random word), makes one request, and prints `turn K W number N on B`:
+///
+/// - K is the number of the turn, from 1.
+/// - W is the outcome of the request: `published`, `unchanged`, `repeat`, `old`, `gap`, `held`, `refused` and an HTTP
+///   status, or `bad` (see [`unl_refresh::Outcome`]), or `fault` if the peer failed.
+/// - N is the number of the replica's version after the turn, or `-` if it has none. Unless the epoch is 0, the epoch
+///   and a dot precede the number.
+/// - B is `true` or `false`: whether the feature is on. It is `-` if there is no version or no such feature. The
+///   feature is evaluated at the time and with the random word of the draw, and with an empty host name.
 ///
 /// # Errors
-/// `WriteFault` if the sink fails; a prefix of the text was sent then. `Memory` if out of memory; whole lines were sent then. A
-/// fault of the peer doesn't end the run.
+/// `WriteFault` if the sink fails: a prefix of the text was sent. `Memory` if out of memory: only whole lines were
+/// sent. A fault of the peer doesn't end the run.
 pub fn follow<P: Peer, R: Draws, T: Pace, K: Sink>(
     alloc: Global,
     subject: &Subject<'_>,
@@ -35,9 +40,10 @@ pub fn follow<P: Peer, R: Draws, T: Pace, K: Sink>(
     requires host { IsTrue (fits_line ask.host) }
     requires token { IsTrue (fits_line ask.token) }
     requires new { ask.tag ≡ None }
-    // The number of turns is the smaller of what was asked for and what the pace allowed; they used the replies and draws to
-    // come. Each turn with a reply sent the ask's request, with the current tag, on a new connection. The text of the turns was
-    // sent: a prefix of it if a write failed, and whole lines if out of memory.
+    // The number of turns is the smaller of `turns` and the number that the pace allows. The turns take the upcoming
+    // draws and replies in order. Each turn with a reply sent the ask's request, with the current tag, on a new
+    // connection. The lines of the turns were sent: all of them on success, a prefix of their text if a write failed,
+    // whole lines if out of memory.
     ensures runs { Runs turns (T.turns pace.old) ask subject.now
         (record {
           peer = P.state peer.old;
@@ -77,7 +83,8 @@ pub fn follow<P: Peer, R: Draws, T: Pace, K: Sink>(
     Ok(())
 }
 
-/// Returns whether there is a turn after `made` turns. There is a first one; each later one waits for the pace.
+/// Returns whether there is one more turn after `made` turns. The first turn starts at once; each later one waits for
+/// the pace.
 fn has_next_turn<T: Pace>(made: u32, pace: &mut T) -> bool
     ensures first { made ≡ 0 → (result ≡ true) × (T.turns pace.new ≡ T.turns pace.old) }
     ensures takes { 0 < made → T.turns pace.new ≡ option_map (λ n. n - 1) (T.turns pace.old) }

@@ -7,7 +7,7 @@ use unl_context::Context;
 pub struct Subject<'a> {
     /// The name of the feature.
     pub feature: &'a str,
-    /// The context, with its environment.
+    /// The context of the evaluation, including its environment.
     pub context: &'a Context,
 }
 

@@ -1,4 +1,4 @@
-//! One turn: a request, and the line that reports it.
+//! One turn of a run: a request, and the line that reports its outcome.
 ghost use Rattle.std.specs.Prelude.{◌≡◌, ℕ, ◌<◌, ◌≤◌, ◌+◌, ◌-◌, ◌^◌, List, Option, Err, IfOk, IsTrue, OnOk, string_bytes};
 ghost use Rattle.unl_base.specs.Faults.{Rose};
 ghost use Rattle.unl_base.specs.Streams.{Sends, SendsPrefix};
@@ -19,7 +19,7 @@ use unl_documents::Memory;
 use unl_refresh::{Ask, Outcome, RefreshFault};
 use unl_strategies::Moment;
 
-/// Makes one turn: takes one draw, makes one request, and sends the line of its outcome.
+/// Makes one turn: takes one draw, makes one request, and writes the line of the turn to the sink.
 pub(crate) fn turn<P: Peer, R: Draws, K: Sink>(
     alloc: Global,
     number: u32,
@@ -78,7 +78,7 @@ pub(crate) fn turn<P: Peer, R: Draws, K: Sink>(
     Ok(())
 }
 
-/// Makes one request. Returns no outcome if the peer failed; the only error is out of memory.
+/// Makes one request. Returns `None` if the peer failed. The only error is out of memory.
 fn ask_once<P: Peer>(
     alloc: Global,
     replica: &mut Replica,
@@ -105,7 +105,7 @@ fn ask_once<P: Peer>(
     }
 }
 
-/// Returns the line of a turn with this draw.
+/// Returns the line of a turn, with the feature evaluated at the time and with the random word of this draw.
 #[tactic(auto, unfolding(crate::specs::Turns::turn_line))]
 fn line_of_turn(
     alloc: Global,
