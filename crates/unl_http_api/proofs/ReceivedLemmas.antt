@@ -27,13 +27,13 @@ use Rattle.unl_http_api.proofs.RoomLemmas.{window_fits}
 
 -- ---- what a call returns
 
--- a call that gives a reading returns by what the reading is
+-- if a call returns the reading or fails by memory, and the reading has a property, then the call's result has it
 pub Answers-from_gives : {T E : Type 0} (memory : E) (P : Result T E → Type 0) (result reading : Result T E)
     → Gives memory result reading → P reading → Answers memory P result
 Answers-from_gives memory P (Ok x) reading gives is = subst P gives is
 Answers-from_gives memory P (Err e) reading gives is = λ other. subst P (gives other) is
 
--- a call that returns a value in a relation gives the only value that the relation allows
+-- if a property holds of only one reading, a call whose result has the property returns that reading or fails by memory
 pub Gives-from_answers : {T E : Type 0} (memory : E) (P : Result T E → Type 0) (result reading : Result T E)
     → ((r s : Result T E) → P r → P s → r ≡ s) → Answers memory P result → P reading → Gives memory result reading
 Gives-from_answers memory P (Ok x) reading unique answers is = unique reading (Ok x) is answers
@@ -86,7 +86,7 @@ IsReply_unique bytes r s (inl x) (inr y) = absurd (y.0 x.0 x.1 x.2)
 IsReply_unique bytes r s (inr x) (inl y) = absurd (x.0 y.0 y.1 y.2)
 IsReply_unique bytes r s (inr x) (inr y) = x.1 ∙ sym y.1
 
--- so a way in which they parse is the only one
+-- if bytes parse in one way, that way is the only one
 pub one_reply_of : (bytes : List ℕ) (reading : Result Got BadReply) → IsReply bytes reading → HasOneReply bytes
 one_reply_of bytes reading is = record {
   reading = reading;
@@ -138,7 +138,7 @@ test_passes a b less = grind (arith, nat_tests)
 test_fails : (a b : ℕ) → b ≤ a → nat_lt a b ≡ false
 test_fails a b not_less = grind (arith, nat_tests)
 
--- past the limit, the number of bytes that follow doesn't matter
+-- if more bytes follow the head than a body may have, their number doesn't change the length of the body
 size_stays : (stated : Option ℕ) (n m : ℕ) → 16777216 < n → n ≤ m → size_among stated n ≡ size_among stated m
 size_stays None n m many more =
     rw (test_passes 16777216 n many, test_passes 16777216 m (omega (arith, many, more))) refl
@@ -148,7 +148,7 @@ size_stays (Some k) n m many more =
       | inr small ↦ rw (test_fails n k (omega (arith, small, many)), test_fails m k (omega (arith, small, many, more))) refl
     ]
 
--- as above, with the head given
+-- the same for the length of the body by status and fields
 body_size_stays : (status : ℕ) (fields : List (List ℕ × List ℕ)) (n m : ℕ) → 16777216 < n → n ≤ m
     → body_size status fields n ≡ body_size status fields m
 body_size_stays status fields n m many more = rw (size_stays (stated_length fields) n m many more) refl
@@ -231,7 +231,7 @@ value_fits f is =
     list_all-from_AllPass (λ b. not (b == 0 || b == 10 || b == 13)) (field_value f)
     (All-weaker (λ b. IsTrue (is_value_byte b)) _ value_byte_fits (field_value f) (AllPass-trim_ows is_value_byte f.raw is.raw))
 
--- so does that of the first field with a name
+-- the value of the first field with a name fits in a header line
 first_fits : (name : List ℕ) (fields : List Field) → All IsField fields
     → IsTrue (fits_if_any (first_value name (map name_and_value fields)))
 first_fits name [] all = refl
@@ -258,7 +258,7 @@ tag_fits bytes got (inl x) =
     subst (λ tag. IsTrue (fits_if_any tag)) (sym is) (first_fits (codes "etag") x.0.fields x.2.reads.0.fields)
 tag_fits bytes got (inr x) = absurd (cc)
 
--- so does the tag of a reply that a call returned
+-- the tag of a reply that a call returned fits in a header line
 pub tag_fits_if_ok : (bytes : List ℕ) (result : Result Got BadReply) → Answers Memory (IsReply bytes) result
     → IfOk result (λ got. IsTrue (fits_if_any got.tag))
 tag_fits_if_ok bytes (Ok got) is = tag_fits bytes got is

@@ -1,4 +1,4 @@
--- Bytes that are UTF-8.
+-- The result of `str::from_utf8` agrees with `if_utf8`.
 use Rattle.std.proofs.Common.{◌≡◌, ℕ, ◌<◌, List, length, false, ◌==◌, Some, None, cond, option_map, Result, Ok, Err, MatchResult, sym, ap, ◌∙◌, arith, Bor, eq-eqb}
 use Rattle.std.specs.Result.{result_ok}
 use Rattle.std.specs.Str.{IsUtf8, IsValidUpTo}

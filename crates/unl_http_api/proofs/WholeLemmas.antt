@@ -42,7 +42,7 @@ ends_longer n q qs rest Memory stays x = absurd x
 EndsRegularly : ℕ → List Request → Type 0
 EndsRegularly n qs = (end : End) × IsRegular end × EndsSo n qs [] end
 
--- after no request
+-- an empty list of requests ends by `Closed`, or by `Limit` if the limit is 0
 none_left : (n : ℕ) → EndsRegularly n []
 unfolding EndsRegularly
 none_left zero = (Limit, tt, (tt, refl))
@@ -52,7 +52,7 @@ more_left : (n : ℕ) (q : Request) (qs : List Request) → q.close ≡ false �
 unfolding EndsRegularly
 more_left n q qs stays (end, regular, ends) = (end, regular, ends_longer n q qs [] end stays ends)
 
--- the last request
+-- a list of one request ends after it, whether or not the request ends the connection
 last_left : (n : ℕ) (q : Request) (close : Bool) → q.close ≡ close → EndsRegularly (suc n) (q ∷ [])
 unfolding EndsRegularly
 last_left n q true is = (

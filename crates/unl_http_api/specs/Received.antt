@@ -15,7 +15,7 @@ pub record HasReplyHead (bytes : List ℕ) (head : ResponseHead) (rest : List �
   pub short : length (print_response head) ≤ 8192
   pub few : length head.fields ≤ 64
 
--- no such head begins the bytes
+-- no reply head within these limits begins the bytes
 abbrev pub HasNoReplyHead : List ℕ → Type 0
 HasNoReplyHead bytes = (head : ResponseHead) (rest : List ℕ) → ¬ (HasReplyHead bytes head rest)
 
@@ -23,19 +23,20 @@ HasNoReplyHead bytes = (head : ResponseHead) (rest : List ℕ) → ¬ (HasReplyH
 abbrev pub reply_fields : ResponseHead → List (List ℕ × List ℕ)
 reply_fields head = map name_and_value head.fields
 
--- the length that the `content-length` field states, if it does
+-- the length that the first `content-length` field states, if there is one and it is 1 to 19 digits
 abbrev pub stated_length : List (List ℕ × List ℕ) → Option ℕ
 stated_length fields = option_and_then plain_number (first_value (codes "content-length") fields)
 
--- The number of bytes after the head that are the body: the stated length, or all bytes. A body has at most 16,777,216
--- bytes, and not fewer than stated.
+-- The length of the body: the stated length, or all following bytes if no length is stated. `TooLarge` above 16,777,216,
+-- `Short` if fewer bytes follow than stated.
 abbrev pub size_among : Option ℕ → ℕ → Result ℕ BadReply
 size_among (Some stated) following =
     if nat_lt 16777216 stated then Err TooLarge else if nat_lt following stated then Err Short else Ok stated
 size_among None following = if nat_lt 16777216 following then Err TooLarge else Ok following
 
--- The size of the body, from the head. A body has no transfer encoding, and its length is stated at most once, in 1 to 19
--- digits. A reply with status 304 has no body, whatever length it states.
+-- The length of the body, from the status, the fields and the number of bytes after the head. `Head` if there is a
+-- `transfer-encoding`, more than one `content-length`, or one that isn't 1 to 19 digits. A 304 has no body, whatever length it
+-- states.
 abbrev pub body_size : ℕ → List (List ℕ × List ℕ) → ℕ → Result ℕ BadReply
 body_size status fields following =
     if nat_lt 0 (count_of (codes "transfer-encoding") fields) || is_none (body_length fields) then Err Head
@@ -46,16 +47,16 @@ body_size status fields following =
 abbrev pub got_with : ℕ → List (List ℕ × List ℕ) → List ℕ → Got
 got_with status fields body = record { status = status; tag = first_value (codes "etag") fields; body = body }
 
--- how a status, fields and the bytes after the head parse
+-- the reply with this status and these fields, whose body is among the bytes after the head; or the fault of the body
 abbrev pub reading_with : ℕ → List (List ℕ × List ℕ) → List ℕ → Result Got BadReply
 reading_with status fields rest =
     body_size status fields (length rest) >>= λ size. Ok (got_with status fields (take size rest))
 
--- how a head and the bytes after it parse
+-- the reply with this head, whose body is among the bytes after it; or the fault of the body
 abbrev pub reading_of : ResponseHead → List ℕ → Result Got BadReply
 reading_of head rest = reading_with (status_code head) (reply_fields head) rest
 
--- How complete bytes parse: by their head, or as a fault if they have none.
+-- How bytes parse if no more follow: by their head, or as the fault `Head` if they begin with none.
 abbrev pub IsReply : List ℕ → Result Got BadReply → Type 0
 IsReply bytes reading =
     ((head : ResponseHead) × (rest : List ℕ) × HasReplyHead bytes head rest × (reading ≡ reading_of head rest))

@@ -1,4 +1,4 @@
-//! Every byte string has exactly one session.
+//! Shows that every byte string has exactly one session: one list of requests, and one reason why the connection ends.
 ghost use Rattle.std.specs.Prelude.{◌≡◌, length};
 ghost use Rattle.unl_http_api.specs.Session.{HasOneSession};
 ghost use Rattle.unl_http_api.specs.Finds.{HasParts};
@@ -9,7 +9,7 @@ use crate::head::{MOST_SPANS, Seen, WINDOW, after, see, window};
 use crate::parts::Parts;
 use httparse::spans::{EMPTY_HEADER_SPAN, HeaderSpan};
 
-/// The most requests that are answered on one connection.
+/// The most requests that are answered on one connection. Chosen by this project.
 const MOST_REQUESTS: usize = 1000;
 
 /// The first item in a buffer, computed without allocating.
@@ -23,8 +23,8 @@ enum FirstItem {
     Bad(u16),
 }
 
-/// Every byte string has exactly one session. To show this, the function reads the bytes, which needs no memory beyond the
-/// stack.
+/// Shows that the bytes have exactly one session: one list of requests, and one reason why the connection ends. The
+/// function only reads the bytes, and allocates nothing.
 pub fn has_one_session(bytes: &[u8])
     ensures { HasOneSession bytes.now }
 {
@@ -44,7 +44,7 @@ pub fn has_one_session(bytes: &[u8])
     }
 }
 
-/// The first item in a buffer.
+/// Classifies the start of a buffer: a request, incomplete, or refused.
 fn first_item(held: &[u8], spans: &mut [HeaderSpan]) -> FirstItem
     requires { length spans.old ≡ MOST_SPANS }
     ensures { IsFirstItem held.now result }
@@ -64,7 +64,7 @@ fn first_item(held: &[u8], spans: &mut [HeaderSpan]) -> FirstItem
     }
 }
 
-/// The first item in a buffer that begins with a complete head of `len` bytes.
+/// Classifies the start of a buffer that begins with a complete head of `len` bytes.
 fn item_after_head(held: &[u8], len: usize, parts: &Parts) -> FirstItem
     requires { HasParts held.now len parts.now }
     ensures { IsFirstItem held.now result }

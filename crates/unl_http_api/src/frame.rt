@@ -1,4 +1,5 @@
-//! The length of the first request in a buffer, without the request itself. A door needs it to forward requests.
+//! Finds the length of the first request in a buffer, without building the request. The network thread uses it to find
+//! out whether a whole request was received, so that the connection can be served.
 ghost use Rattle.httparse.specs.Grammar.{HasNoRequest};
 ghost use Rattle.std.specs.Prelude.{◌≢◌, ◌≤◌, IfOk, IfSome, None, length};
 ghost use Rattle.unl_http_api.specs.Finds.{HasParts};
@@ -12,7 +13,7 @@ use httparse::spans::{EMPTY_HEADER_SPAN, HeaderSpan};
 use std::alloc::Global;
 use unl_documents::Memory;
 
-/// The first request in a buffer, by length.
+/// The length of the first request in a buffer, or why there is no such request.
 #[derive(Clone, Copy, Debug, PartialEq, Eq)]
 pub enum Frame {
     /// A complete request of this many bytes.
@@ -23,12 +24,11 @@ pub enum Frame {
     Bad(u16),
 }
 
-/// Measures the first request in a buffer. A [`Reader`](crate::Reader) that holds these bytes agrees: it takes exactly that
-/// many bytes for its next request, asks for more, or refuses with the same status (RFC 9112, and the limits on heads and
-/// bodies).
+/// Measures the first request in a buffer. A [`Reader`](crate::Reader) that holds the same bytes agrees: its next item
+/// is a request of exactly this length, or `Next::More`, or `Next::Bad` with the same status.
 ///
 /// # Errors
-/// `Memory`: out of memory. It only occurs if a head has more than 64 fields.
+/// `Memory`: out of memory. Only possible if the head has more than 64 fields.
 pub fn request_frame(alloc: Global, bytes: &[u8]) -> Result<Frame, Memory>
     ensures { IfOk result (IsFrame bytes.now) }
 {
@@ -42,7 +42,8 @@ pub fn request_frame(alloc: Global, bytes: &[u8]) -> Result<Frame, Memory>
     }
 }
 
-/// As `request_frame`, with as many spans as a head can have.
+/// As `request_frame`, with an allocated array of spans. A span is the position of one header field. The array has
+/// enough of them for any head in the window (the first 8,192 bytes). The only error is out of memory.
 fn frame_among_many(alloc: Global, bytes: &[u8]) -> Result<Frame, Memory>
     ensures { IfOk result (IsFrame bytes.now) }
 {
@@ -53,7 +54,8 @@ fn frame_among_many(alloc: Global, bytes: &[u8]) -> Result<Frame, Memory>
     }
 }
 
-/// As `request_frame`, with the given spans. `None` if they are too few.
+/// As `request_frame`, but the positions of the header fields are stored in `spans`. `None` if the head has more fields
+/// than there are spans.
 fn frame_by(bytes: &[u8], spans: &mut [HeaderSpan]) -> Option<Frame>
     ensures frame { IfSome result (IsFrame bytes.now) }
     ensures room { MOST_SPANS ≤ length spans.old → result ≢ None }
@@ -69,7 +71,7 @@ fn frame_by(bytes: &[u8], spans: &mut [HeaderSpan]) -> Option<Frame>
     }
 }
 
-/// Frames bytes whose window holds no complete head yet.
+/// The frame of bytes whose window (the first 8,192 bytes) holds no complete head yet.
 fn not_yet(bytes: &[u8]) -> Frame
     requires none { HasNoRequest (window bytes.now) }
     requires hopeful { IsHopeless (window bytes.now) → ⊥ }
@@ -82,7 +84,7 @@ fn not_yet(bytes: &[u8]) -> Frame
     }
 }
 
-/// Frames bytes that begin with a complete head of `len` bytes.
+/// The frame of bytes that begin with a complete head of `len` bytes.
 fn framed(bytes: &[u8], len: usize, parts: &Parts) -> Frame
     requires { HasParts bytes.now len parts.now }
     ensures { IsFrame bytes.now result }

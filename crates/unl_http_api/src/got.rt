@@ -13,16 +13,17 @@ pub struct Got {
     pub status: u16,
     /// The value of the first `ETag` field, verbatim. `None` if there is no such field.
     pub tag: Option<Bytes>,
-    /// At most 16,777,216 bytes: as many as `Content-Length` states, or else all bytes after the head. Empty for a 304.
+    /// The body: as many bytes as `Content-Length` states, or all bytes after the head if it is absent. At most
+    /// 16,777,216 bytes. Empty for a 304.
     pub body: Bytes,
 }
 
-/// Why bytes are not a valid reply: the first of these that applies, except that a stated length above the limit is
-/// reported before `Short`; or out of memory.
+/// Why bytes were not parsed as a reply. The head is checked first, then the length of the body against its limit, then
+/// whether the body is complete. The limits are chosen by this project.
 #[derive(Clone, Copy, Debug, PartialEq, Eq, Error)]
 pub enum BadReply {
-    /// No head of at most 64 fields ends within the first 8,192 bytes; or the head has a `Transfer-Encoding` field, more
-    /// than one `Content-Length`, or a `Content-Length` that isn't 1 to 19 digits.
+    /// No head of at most 64 fields ends within the first 8,192 bytes; or the head has a `Transfer-Encoding` field,
+    /// more than one `Content-Length`, or a `Content-Length` that isn't 1 to 19 digits.
     #[error("the head is no head of a reply")]
     Head,
     /// The bytes end before the end of the body.

@@ -6,7 +6,7 @@ ghost use Rattle.unl_http_api.specs.Reply.{header};
 use itoa::Buffer;
 use unl_documents::Memory;
 
-/// Appends a header line.
+/// Appends a header line: the name, a colon, a space, the value and CRLF.
 pub(crate) fn push_header(text: &mut Vec<u8>, name: &str, value: &[u8]) -> Result<(), Memory>
     ensures { OnOk result (text.new.items ≡ text.old.items ++ header name.now value.now) }
 {
@@ -26,7 +26,7 @@ pub(crate) fn push_number(text: &mut Vec<u8>, number: usize) -> Result<(), Memor
     Ok(())
 }
 
-/// Appends the `Content-Length` header.
+/// Appends the `Content-Length` header with a length in bytes.
 pub(crate) fn push_length(text: &mut Vec<u8>, length: usize) -> Result<(), Memory>
     ensures { OnOk result (text.new.items ≡ text.old.items ++ header (codes "Content-Length") (decimal length)) }
 {

@@ -1,4 +1,4 @@
-//! Parses the head of a reply, and derives the body from the bytes after it.
+//! Parses a reply: its head, and the body among the bytes after it.
 ghost use Rattle.std.specs.Prelude.{◌≡◌, ◌≤◌, ℕ, List, length, IfOk, IfSome, IfNone};
 ghost use Rattle.httparse.specs.Grammar.{ResponseHead, ReadsResponse};
 ghost use Rattle.httparse.specs.Spans.{IsResponseWithin, IsResponseOf};
@@ -15,13 +15,14 @@ use httparse::spans::{EMPTY_HEADER_SPAN, HeaderSpan, ResponseSpans, parse_respon
 use std::alloc::Global;
 use unl_documents::List;
 
-/// The most fields that a reply's head may have.
+/// The most fields that a reply's head may have. Chosen by this project.
 pub(crate) const MOST_FIELDS: usize = 64;
 
-/// The most bytes that a reply's body may have.
+/// The most bytes that a reply's body may have: 16 MiB. Chosen by this project.
 const MOST_BODY: u64 = 16_777_216;
 
-/// Parses the head at the start of the window, if there is a complete one that fits the spans.
+/// Parses the head at the start of the window (the first 8,192 bytes of a reply). Returns `None` if there is no
+/// complete head, or if it has more fields than `spans` has items.
 fn see_reply(window: &[u8], spans: &mut [HeaderSpan]) -> Option<ResponseSpans>
     ensures some { IfSome result (λ head. IsResponseWithin window.now spans.new head × IsResponseOf window.now spans.new head) }
     ensures none { IfNone result ((head : ResponseHead) (rest : List ℕ) → ReadsResponse window.now head rest
@@ -33,7 +34,12 @@ fn see_reply(window: &[u8], spans: &mut [HeaderSpan]) -> Option<ResponseSpans>
     }
 }
 
-/// The number of bytes after the head that are the body.
+/// The length of the body in bytes. `following` is the number of bytes after the head.
+///
+/// # Errors
+/// - `Head`: there is a `Transfer-Encoding`, more than one `Content-Length`, or one that isn't 1 to 19 digits.
+/// - `TooLarge`: the body would have more than 16,777,216 bytes.
+/// - `Short`: fewer bytes follow than `Content-Length` states.
 fn body_size(status: u16, fields: &Fields, following: usize) -> Result<usize, BadReply>
     ensures size { result ≡ body_size status fields.now following }
     ensures fits { IfOk result (λ size. size ≤ following) }
@@ -47,7 +53,8 @@ fn body_size(status: u16, fields: &Fields, following: usize) -> Result<usize, Ba
     size_among(fields.stated_length(), following)
 }
 
-/// The number of bytes after the head that are the body, given the stated length.
+/// The length of the body in bytes, given the length that `Content-Length` states. Without one, all `following` bytes
+/// are the body.
 fn size_among(stated: Option<u64>, following: usize) -> Result<usize, BadReply>
     ensures size { result ≡ size_among stated following }
     ensures fits { IfOk result (λ size. size ≤ following) }
@@ -61,7 +68,10 @@ fn size_among(stated: Option<u64>, following: usize) -> Result<usize, BadReply>
     }
 }
 
-/// The reply with this status and these fields, given the bytes after the head.
+/// The reply with this status and these fields, whose body is among the bytes after the head (`rest`).
+///
+/// # Errors
+/// As for `body_size`, or `Memory`: out of memory.
 fn reply_with(alloc: Global, status: u16, fields: &Fields, rest: &[u8]) -> Result<Got, BadReply>
     ensures { Gives BadReply.Memory result (reading_with status fields.now rest.now) }
 {
@@ -73,7 +83,12 @@ fn reply_with(alloc: Global, status: u16, fields: &Fields, rest: &[u8]) -> Resul
     })
 }
 
-/// Parses bytes as a reply. The spans of its head are stored in `spans`.
+/// Parses the reply at the start of `bytes`, which are all bytes that will be received. The spans of its head are
+/// stored in `spans`.
+///
+/// # Errors
+/// `Head`: the first 8,192 bytes contain no complete head, or it has more than 64 fields. Otherwise as for
+/// `reply_with`.
 pub(crate) fn read_reply(
     alloc: Global,
     bytes: &[u8],
@@ -92,8 +107,8 @@ pub(crate) fn read_reply(
     }
 }
 
-/// Every byte string parses as a reply in exactly one way. To show this, the function looks for the head, which needs no
-/// memory beyond the stack.
+/// Shows that the bytes parse in exactly one way: as a reply, or as a fault. The function only looks for the head, and
+/// allocates nothing.
 pub fn has_one_reply(bytes: &[u8])
     ensures { HasOneReply bytes.now }
 {

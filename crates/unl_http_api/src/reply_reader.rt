@@ -37,7 +37,8 @@ impl ReplyReader {
         }
     }
 
-    /// The number of bytes held. From 16,785,409 on, further bytes don't change how the reply is read. Allocates nothing.
+    /// The number of bytes held. From 16,785,409 on, further bytes don't change how the reply is read. Allocates
+    /// nothing.
     pub fn held(&self) -> usize
         ensures { result ≡ length self.now }
     {

@@ -18,8 +18,8 @@ pub fn fits_line(text: &[u8]) -> bool
     text.iter().all(|byte| !matches!(*byte, 0 | b'\n' | b'\r'))
 }
 
-/// The text of an HTTP/1.0 request by GET or POST, with `Connection: close`. The token becomes the `Authorization` field,
-/// the tag the `If-None-Match` field. A POST also has `Content-Type` and `Content-Length` fields.
+/// The text of an HTTP/1.0 request by GET or POST, with `Connection: close`. The token becomes the `Authorization`
+/// field, the tag the `If-None-Match` field. A POST also has `Content-Type` and `Content-Length` fields.
 ///
 /// # Errors
 /// `Memory`: out of memory.
@@ -53,7 +53,7 @@ pub fn write_request(
     Ok(List::from_vec(text))
 }
 
-/// The name of a method.
+/// The name of a method in the request line. Empty for `Other`, which this client never sends.
 fn method_name(method: Method) -> &'static str
     ensures { result.now ≡ method_name method }
 {
@@ -75,7 +75,7 @@ fn push_request_line(text: &mut Vec<u8>, method: Method, target: &str) -> Result
     Ok(())
 }
 
-/// Appends the token, if there is one.
+/// Appends the `Authorization` field with the token, if there is a token.
 fn push_token(text: &mut Vec<u8>, token: Option<&str>) -> Result<(), Memory>
     ensures { OnOk result (text.new.items
         ≡ text.old.items ++ option_map_or (header (codes "Authorization")) (option_copied token.entry) []) }
@@ -86,7 +86,7 @@ fn push_token(text: &mut Vec<u8>, token: Option<&str>) -> Result<(), Memory>
     }
 }
 
-/// Appends the tag, if there is one.
+/// Appends the `If-None-Match` field with the tag, if there is a tag.
 fn push_tag(text: &mut Vec<u8>, tag: Option<&[u8]>) -> Result<(), Memory>
     ensures { OnOk result (text.new.items
         ≡ text.old.items ++ option_map_or (header (codes "If-None-Match")) (option_copied tag.entry) []) }
