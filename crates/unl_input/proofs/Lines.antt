@@ -51,7 +51,7 @@ sent_then xs ys (Some x) = ap Some (append_assoc x xs ys)
 pub sends_trans : (r s t : Option (List ℕ)) (xs ys : List ℕ) → Sends r xs s → Sends s ys t → Sends r (xs ++ ys) t
 sends_trans r s t xs ys one two = two ∙ ap (option_map (λ sent. sent ++ ys)) one ∙ sent_then xs ys r
 
--- a whole text, and then a prefix of another
+-- sending a whole text and then a prefix of another sends a prefix of both texts together
 pub sends_then_prefix : (r s t : Option (List ℕ)) (xs ys : List ℕ) → Sends r xs s → SendsPrefix s ys t → SendsPrefix r (xs ++ ys) t
 sends_then_prefix r s t xs ys one prefix = record {
   part = xs ++ prefix.part;
@@ -108,7 +108,7 @@ pub last_line : (line : List ℕ) → has_end line ≡ false → line ≢ [] →
 last_line [] none some = absurd (some refl)
 last_line (b ∷ bs) none some = ap lines (sym (append-nil (b ∷ bs))) ∙ unbroken (b ∷ bs) [] none ∙ begun-none b bs
 
--- the first line of the bytes is too long
+-- the bytes have a first line, and it is too long
 abbrev pub LongFirst : List ℕ → Type 0
 LongFirst bytes = (line : List ℕ) × (more : List (List ℕ)) × (lines bytes ≡ line ∷ more) × (longest_line < length line)
 
@@ -123,7 +123,7 @@ long_first prefix rest none long =
     let first = long_begun prefix (lines rest) long in
     (first.0, first.1, unbroken prefix rest none ∙ first.2, first.3)
 
--- a byte begins some line
+-- bytes that are not empty have a first line
 pub some_first : (b : ℕ) (rest : List ℕ) → (line : List ℕ) × (more : List (List ℕ)) × (lines (b ∷ rest) ≡ line ∷ more)
 some_first b rest = begins b (lines rest) (is_end b)
   where
@@ -152,12 +152,13 @@ before_first_end (x ∷ xs) = by_first (is_end x) refl (before_first_end xs)
         ap (λ n. has_end (take n (x ∷ xs))) (one_more (position_or_len is_end xs))
         ∙ ap (λ t. t || has_end (take (position_or_len is_end xs) xs)) is ∙ rest
 
--- the first items of a list's first items
+-- the first `k` items of the first `most` items of a list are the first `k` items of the list
 pub take_of_first : {A : Type 0} (xs : List A) (most k : ℕ) → k ≤ length (take most xs) → take k (take most xs) ≡ take k xs
 take_of_first xs most k within =
     sym (take-append-le k (take most xs) (drop most xs) within) ∙ ap (take k) (take-append-drop most xs)
 
--- the held bytes were searched up to the limit of the line, and those before the first line feed were appended to the line
+-- one step of the reader: `prefix` is the part of the held bytes that may belong to the line, `k` is the position of its first
+-- line feed or its length, and the bytes before that are appended to the line
 abbrev pub Looks : List ℕ → List ℕ → ℕ → List ℕ → ℕ → List ℕ → Type 0
 Looks line held most prefix k after = (prefix ≡ take most held) × (k ≡ position_or_len is_end prefix) × (after ≡ line ++ take k prefix)
 
@@ -187,7 +188,7 @@ end_at xs k is within =
     ap (λ n. get_or xs n 0) is
     ∙ eqb-true (get_or xs (position_or_len is_end xs) 0) 10 (passes_at_first is_end xs 0 (subst (λ n. n < length xs) is within))
 
--- the line feed was found
+-- one step of the reader found the line feed, so the line ends
 pub piece_ends : (line held : List ℕ) (most : ℕ) (prefix : List ℕ) (k : ℕ) (after rest : List ℕ)
     → Looks line held most prefix k after → length line + most ≡ longest_line + 1 → k < length prefix
     → rest ≡ drop (k + 1) held → EndsLine line held after rest
@@ -209,7 +210,7 @@ piece_ends line held most prefix k after rest looks whole found is =
           ∙ ap (λ xs. take k prefix ++ xs) split;
     }
 
--- no line feed was found
+-- one step of the reader found no line feed, so the line grows
 pub piece_grows : (line held : List ℕ) (most : ℕ) (prefix : List ℕ) (k : ℕ) (after rest : List ℕ)
     → Looks line held most prefix k after → 0 < most → 0 < length held → length prefix ≤ k
     → rest ≡ drop k held → GrowsLine line held after rest
@@ -227,7 +228,7 @@ piece_grows line held most prefix k after rest looks room some all is =
 
 -- ---- complete lines
 
--- The bytes are complete lines: what follows them begins a new line.
+-- The bytes are complete lines: the bytes that follow them begin a new line.
 pub record IsWhole (bytes : List ℕ) : Type 0 where
   pub first : (rest : List ℕ) → lines (bytes ++ rest) ≡ lines bytes ++ lines rest
   pub ends : count_by is_end bytes ≡ length (lines bytes)
@@ -265,7 +266,7 @@ whole_more bytes line whole none =
           ∙ sym (ap length all ∙ length-append (lines bytes) (line ∷ []));
     }
 
--- the lines of complete lines are the first of what follows them
+-- complete lines are the first lines of any bytes that begin with them
 pub first_whole : (bytes rest : List ℕ) → IsWhole bytes → take (length (lines bytes)) (lines (bytes ++ rest)) ≡ lines bytes
 first_whole bytes rest whole =
     ap (take (length (lines bytes))) (whole.first rest)
@@ -286,7 +287,7 @@ ended_whole bytes prefix whole none =
 unbroken_both : (xs ys : List ℕ) → has_end xs ≡ false → has_end ys ≡ false → has_end (xs ++ ys) ≡ false
 unbroken_both xs ys one two = list_any-append is_end xs ys ∙ ap (λ t. t || has_end ys) one ∙ two
 
--- memory ran out in a line: no more of it was consumed
+-- memory ran out while a line was read: only the start of the line was consumed
 pub stops_in_line : (h i j k : List ℕ) (l m n : Option (List ℕ)) (line : List ℕ) → has_end line ≡ false → Gets h l line i m → Gets i m [] j n → k ≡ j
     → BeginsLine h l k n
 stops_in_line h i j k l m n line none got filled same = record {
@@ -296,11 +297,11 @@ stops_in_line h i j k l m n line none got filled same = record {
       (subst (λ xs. Gets h l xs j n) (append-nil line) (gets_trans h i j l m n line [] got filled));
 }
 
--- bytes that were held
+-- bytes that were consumed from the buffer, without a read
 gets_prefix : (h i : List ℕ) (l : Option (List ℕ)) (out : List ℕ) → h ≡ out ++ i → Gets h l out i l
 gets_prefix h i l out prefix = record { read = []; took = takes_nothing l; split = append-nil h ∙ prefix }
 
--- the line feed was found
+-- the line feed was found: the line was consumed, and its line feed too
 pub line_ends : (h i j k : List ℕ) (l m n : Option (List ℕ)) (line ended : List ℕ) → has_end line ≡ false
     → Gets h l line i m → Gets i m [] j n → EndsLine line j ended k → IsTextLine ended × Gets h l (ended ++ 10 ∷ []) k n
 line_ends h i j k l m n line ended none got filled ends =
@@ -312,7 +313,7 @@ line_ends h i j k l m n line ended none got filled ends =
           (gets_trans h i k l m n line rest got (gets_trans i j k m n n [] rest filled (gets_prefix j k n rest split))),
     )
 
--- more bytes were read, which don't end the line
+-- more bytes of the line were consumed, without a line feed
 pub line_grows : (h i j k : List ℕ) (l m n : Option (List ℕ)) (line grown : List ℕ) → has_end line ≡ false
     → Gets h l line i m → Gets i m [] j n → GrowsLine line j grown k → Gets h l grown k n × (has_end grown ≡ false)
 line_grows h i j k l m n line grown none got filled grows = (
@@ -322,6 +323,6 @@ line_grows h i j k l m n line grown none got filled grows = (
   ap has_end grows.grown ∙ unbroken_both line grows.piece none grows.unbroken,
 )
 
--- more bytes were read than a line may have
+-- more bytes of the line were consumed than a line may have
 pub line_is_long : (h i : List ℕ) (l m : Option (List ℕ)) (line : List ℕ) → has_end line ≡ false → longest_line < length line → Gets h l line i m → BeginsLong h l i m
 line_is_long h i l m line none long got = record { begun = record { prefix = line; unbroken = none; got = got }; long = long }

@@ -9,11 +9,11 @@ then_taken : (xs ys : List ℕ) (c : Option (List ℕ))
 then_taken xs ys None = refl
 then_taken xs ys (Some z) = ap Some (sym (append_assoc xs ys z))
 
--- One piece after another.
+-- Two pieces that are taken one after another are one piece.
 pub takes_more : (a b c : Option (List ℕ)) (xs ys : List ℕ) → Takes a xs b → Takes b ys c → Takes a (xs ++ ys) c
 takes_more a b c xs ys one two = one ∙ ap (option_map (λ rest. xs ++ rest)) two ∙ then_taken xs ys c
 
--- An empty piece.
+-- Taking no bytes changes nothing.
 pub takes_none : (a : Option (List ℕ)) → Takes a [] a
 takes_none None = refl
 takes_none (Some x) = refl

@@ -21,7 +21,7 @@ within_limits_of taking d line k taken is = limited (ltb most_lines k) (ltb long
     limited false true is = absurd (cc is)
     limited false false is = is
 
--- a line is silent with the limits checked, too
+-- a line also prints nothing if the limits are checked first
 silent_line : {D : Type 0} (taking : Taking D) (k : ℕ) (d : D) (line : List ℕ) (taken : Taken D) → IsSilent taking → take_line taking k d line ≡ Ok taken → taken.text ≡ []
 silent_line taking k d line taken silent is = silent k d line taken (within_limits_of taking d line k taken is)
 
@@ -39,7 +39,7 @@ silent_from taking silent (line ∷ more) k d =
 pub prints_cause_alone : {D : Type 0} (taking : Taking D) → IsSilent taking → PrintsCauseAlone taking
 prints_cause_alone taking silent = λ d bytes. silent_from taking silent (lines bytes) 1 d
 
--- nothing was sent of a text without bytes
+-- sending a text without bytes sends nothing
 pub nothing_sent : (old new : Option (List ℕ)) (text : List ℕ) → text ≡ [] → Sends old text new → new ≡ old
 nothing_sent old new text none sends = sends ∙ ap (λ (t : List ℕ). option_map (λ sent. sent ++ t) old) none ∙ sym (sends_nothing old)
 

@@ -12,7 +12,7 @@ use Rattle.unl_input.specs.Turns.{LinesScene, ConsumesBytes, Prints, PrintsCause
 use Rattle.unl_input.proofs.Lines.{line_first, last_line, long_first, some_first, sends_nothing}
 use Rattle.unl_input.proofs.Whole.{Heads, Sofar, ends_at, errs, within_limits, past_limit, past_last}
 
--- a cause that was printed is the result of the line
+-- if the result of a line is a refusal, printing its cause is printing the result of the line
 pub prints_cause : {D : Type 0} (fault : LinesFault) (k : ℕ) (cause : List ℕ) (comes : LineResult D) (desk : D) (old new : Option (List ℕ))
     → comes ≡ Err cause → PrintsCause fault k cause old new → Prints (Err fault) k comes desk old new
 prints_cause {D = D} fault k cause comes desk old new is refuses =
@@ -114,7 +114,7 @@ past_errs taking fault k before after b past got refuses =
     (prints_cause fault k (codes "TooManyLines") (Err (codes "TooManyLines")) after.desk before.sent after.sent refl refuses) got
     (heads_past taking k before.desk b after past)
 
--- no line was begun
+-- a read failed before a line was begun
 pub stops : {D : Type 0} (before after : LinesScene D) → ConsumesBytes before [] after × (after.held ≡ []) → after.sent ≡ before.sent → StopsReading before after
 stops before after broken same = record {
   begun = record { prefix = []; unbroken = refl; got = broken.0 };
@@ -122,12 +122,12 @@ stops before after broken same = record {
   sent = same;
 }
 
--- memory ran out in a line
+-- memory ran out while a line was read
 pub runs_out : {D : Type 0} (before after : LinesScene D) → BeginsLine before.held before.left after.held after.left → after.sent ≡ before.sent
     → RunsOutAtLine before after
 runs_out before after begun same = record { out = begun.prefix; got = begun.got; sent = same }
 
--- the first line past the limit was begun
+-- the bytes begin line 1,000,001, which is past the limit
 pub ends_past : {D : Type 0} (taking : Taking D) (first : D) (fault : LinesFault) (start sent : Option (List ℕ)) (k : ℕ) (before after : LinesScene D) (b : ℕ)
     → k ≡ 1000001 → Sofar taking first start sent k before → ConsumesBytes before (b ∷ []) after
     → PrintsCause fault 1000001 (codes "TooManyLines") before.sent after.sent

@@ -1,4 +1,4 @@
--- The lines of a whole input, from their turns.
+-- The effect of processing all lines, from the effect of each turn.
 use Rattle.std.proofs.Common.{◌≡◌, ℕ, ◌+◌, ◌<◌, ◌≤◌, List, [], ◌∷◌, ◌++◌, length, false, cond, ltb, Ok, Err, Option, Some, None, IfSome, refl, sym, ap, subst, ◌∙◌, append_assoc, append-nil, arith}
 use Rattle.std.specs.Prelude.{codes, take}
 use Rattle.std.proofs.lemmas.Bool.{lt-ltb}
@@ -16,7 +16,7 @@ use Rattle.unl_input.proofs.Lines.{gets_trans, takes_nothing, sends_nothing, sen
 
 -- ---- one line
 
--- a line within the limits is processed
+-- for a line within the limits, checking the limits changes nothing
 pub within_limits : {D : Type 0} (taking : Taking D) (k : ℕ) (d : D) (line : List ℕ) → k ≤ most_lines → length line ≤ longest_line
     → take_line taking k d line ≡ taking k d line
 within_limits taking k d line few short =
@@ -41,7 +41,7 @@ past_last taking k d line past =
 
 -- ---- the effect of a turn
 
--- a line begins the consumed bytes, and this is its result
+-- the consumed bytes begin with a line whose result is `comes`, no matter which bytes follow
 unfoldable pub Heads : {D : Type 0} → Taking D → ℕ → D → List ℕ → LinesScene D → LineResult D → Type 0
 Heads taking k d out after comes = (rest : List ℕ) → MayFollow after rest
     → (line : List ℕ) × (more : List (List ℕ)) × (lines (out ++ rest) ≡ line ∷ more) × (take_line taking k d line ≡ comes)
@@ -54,12 +54,12 @@ headed taking k d out rest after comes heads may =
     let first = heads rest may in
     (first.1, ap (take_from taking k d) first.2 ∙ ap (λ r. followed k d r (λ next. take_from taking (k + 1) next first.1)) first.3)
 
--- all that is printed begins with what the line prints
+-- the whole text begins with the text that the first line prints
 prints_first : {D : Type 0} (k : ℕ) (d : D) (comes : LineResult D) (next : D → LinesOutcome D) → TextBeginsWith (printed k comes) (followed k d comes next)
 prints_first k d (Ok taken) next = (whole_text (next taken.desk), append_assoc taken.text (next taken.desk).text (ending_text (next taken.desk).ending))
 prints_first k d (Err cause) next = ([], sym (append-nil (refused_text k cause)))
 
--- a line that isn't processed in full
+-- the effect of a turn whose line was not processed in full
 pub errs : {D : Type 0} (taking : Taking D) (fault : LinesFault) (k : ℕ) (before after : LinesScene D) (out : List ℕ) (comes : LineResult D) (desk : D)
     → Prints (Err fault) k comes desk before.sent after.sent → ConsumesBytes before out after → Heads taking k before.desk out after comes
     → HasTurnEffect taking (Err fault) k before after
@@ -114,9 +114,9 @@ processes_line taking first start sent k before after sofar now =
       sends = sends_trans sent before.sent after.sent sofar.text now.text sofar.sends now.sent;
     }
 
--- ---- how they end
+-- ---- the effect of processing all lines
 
--- all of the input was processed, whether or not it is observable
+-- the whole input was processed; this does not depend on whether it is observable
 pub ends_all : {D : Type 0} (taking : Taking D) (first : D) (start sent : Option (List ℕ)) (k : ℕ) (before after : LinesScene D)
     → Sofar taking first start sent k before → ReachesEnd taking k before after
     → AnswersAllLines taking first after.desk start after.left sent after.sent
@@ -137,13 +137,13 @@ ends_all {D = D} taking first start sent k before after sofar now =
       leaves = ap (λ r. r.desk) is;
     }
 
--- so it was answered whole
+-- all lines of the input were processed, and all output was sent
 pub answers_input : {D : Type 0} (taking : Taking D) (first last : D) (start left old new : Option (List ℕ))
     → AnswersAllLines taking first last start left old new → AnswersInput taking first start left old new
 answers_input taking first last start left old new all =
     record { read = all.read; took = all.took; end = all.end; answered = all.answered }
 
--- the outcome of the bytes read and any that follow, from the outcome of the bytes consumed last
+-- the outcome of all bytes read and any that follow, in terms of the outcome of the bytes `out` that were consumed last
 read_of : {D : Type 0} (taking : Taking D) (first : D) (start sent : Option (List ℕ)) (k : ℕ) (before after : LinesScene D) (out rest : List ℕ)
     → (sofar : Sofar taking first start sent k before) → (got : ConsumesBytes before out after)
     → lines_outcome taking first ((gets_trans [] before.held after.held start before.left after.left sofar.taken out sofar.got got).read ++ rest)
@@ -155,7 +155,7 @@ read_of taking first start sent k before after out rest sofar got =
     (append_assoc (sofar.taken ++ out) after.held rest ∙ append_assoc sofar.taken out (after.held ++ rest))
     ∙ sofar.leads (out ++ (after.held ++ rest))
 
--- what can follow the bytes read can also follow the consumed bytes, after the held ones
+-- if `rest` can follow the bytes read, then the held bytes and `rest` can follow the consumed bytes
 may_follow : {D : Type 0} (after : LinesScene D) (rest : List ℕ) → (HasEnded after.left → rest ≡ []) → MayFollow after (after.held ++ rest)
 may_follow after rest may = λ end. ap (λ xs. xs ++ rest) end.0 ∙ may end.1
 
@@ -202,7 +202,7 @@ ends_broken taking first start sent k before after sofar now =
           (whole_text (lines_outcome taking first (all.read ++ rest))) prefix (text rest may);
     }
 
--- what holds whatever follows holds for an observable input
+-- a statement about all bytes that may follow also holds for the whole input, if the input is observable
 pub holds_of_observable : (P : List ℕ → Type 0) (start left : Option (List ℕ)) → HoldsOfRead start left P → IfSome start P
 holds_of_observable P None left of_read = tt
 holds_of_observable P (Some x) None of_read = absurd (let took = of_read.took in cc)
@@ -210,7 +210,7 @@ holds_of_observable P (Some x) (Some y) of_read =
     let parts : x ≡ of_read.read ++ y = let took = of_read.took in cc in
     subst P (sym parts) (of_read.holds y (λ end. end))
 
--- an observable input that was read to its end is the bytes read
+-- if the input is observable and was read to its end, it is the bytes read
 pub whole_read : (left left_after : Option (List ℕ)) (read : List ℕ) → stream.Takes left read left_after → HasEnded left_after
     → IfSome left (λ bytes. bytes ≡ read)
 whole_read None left_after read took end = tt
@@ -239,7 +239,7 @@ ends_unread {D = D} taking first start sent k before after sofar now =
 
 -- ---- out of memory
 
--- the first lines of some bytes print what was sent, and other bytes follow these lines
+-- exactly the output of the first lines of these bytes was sent
 first_of : {D : Type 0} (taking : Taking D) (first : D) (start sent after : Option (List ℕ)) (k : ℕ) (before : LinesScene D) (bytes rest : List ℕ)
     → (sofar : Sofar taking first start sent k before) → after ≡ before.sent → bytes ≡ sofar.taken ++ rest → AnswersFirst taking first bytes sent after
 first_of {D = D} taking first start sent after k before bytes rest sofar same parts =
@@ -292,7 +292,7 @@ ends_at_once taking first start sent = record {
   };
 }
 
--- how the lines end if a turn fails
+-- the effect of processing all lines, if a turn fails
 pub ends_at : {D : Type 0} (taking : Taking D) (first : D) (fault : LinesFault) (start sent : Option (List ℕ)) (k : ℕ) (before after : LinesScene D)
     → Sofar taking first start sent k before → HasTurnEffect taking (Err fault) k before after → TakesLines taking first (Err fault) start after.left sent after.sent
 ends_at taking first Bad start sent k before after sofar now = ends_refused taking first start sent k before after sofar now

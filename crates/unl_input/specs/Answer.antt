@@ -1,4 +1,4 @@
--- How a whole input is answered, and what is sent.
+-- The outcome of a whole input, and the text that is sent for it.
 use Rattle.std.specs.Prelude.{◌≡◌, ℕ, List, Option, Result, Ok, Err, nat_lt, length, if◌then◌else◌}
 use Rattle.unl_base.specs.Streams.{Sends, SendsPrefix}
 use Rattle.unl_documents.specs.Reading.{Reading}
@@ -18,7 +18,7 @@ abbrev pub or_bad_input : {T : Type 0} → Reading T → InputOutcome T
 or_bad_input (Ok answer) = Ok answer
 or_bad_input (Err fault) = Err (BadInput fault)
 
--- The outcome of the given bytes, for a computation `reads`. Their number is checked first.
+-- The outcome of the given bytes, for a computation `reads`. The size of the input is checked first.
 unfoldable pub input_outcome : {T : Type 0} → (List ℕ → Reading T) → List ℕ → InputOutcome T
 input_outcome reads bytes = if nat_lt longest (length bytes) then Err TooLarge else or_bad_input (reads bytes)
 
@@ -27,7 +27,7 @@ abbrev pub said : {T : Type 0} → (T → List ℕ) → InputOutcome T → List 
 said says (Ok answer) = says answer
 said says (Err refusal) = refusal_line refusal
 
--- The bytes that were read suffice for this outcome: the whole input, or more bytes than an input may have.
+-- The bytes that were read determine this outcome: they are the whole input, or more bytes than an input may have.
 abbrev pub SufficesFor : {T : Type 0} → InputOutcome T → Option (List ℕ) → List ℕ → Option (List ℕ) → Type 0
 SufficesFor (Ok answer) left bytes left_after = IsWholeInput left bytes left_after
 SufficesFor (Err (BadInput fault)) left bytes left_after = IsWholeInput left bytes left_after
@@ -64,7 +64,8 @@ pub record SaysAnswerPrefix {T : Type 0} (reads : List ℕ → Reading T) (says 
   pub answer : T
   pub prefix : SaysPrefix reads says (Ok answer) left left_after old new
 
--- How answering an input ends, in terms of the source's remaining bytes and the sink's sent bytes, before and after.
+-- The effect of answering an input, by its result. `left` and `left_after` are the bytes still to be read from the source
+-- before and after, and `old` and `new` are the bytes sent to the sink before and after.
 abbrev pub AnsweringEnds : {T : Type 0} → (List ℕ → Reading T) → (T → List ℕ) → Result T AnswerFault
     → Option (List ℕ) → Option (List ℕ) → Option (List ℕ) → Option (List ℕ) → Type 0
 AnsweringEnds reads says (Ok answer) left left_after old new = Says reads says (Ok answer) left left_after old new

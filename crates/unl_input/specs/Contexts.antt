@@ -11,7 +11,8 @@ use Rattle.unl_documents.specs.declared.field.Field.TheVariants as field
 use Rattle.unl_documents.specs.Kinds.{at}
 use Rattle.unl_documents.specs.Reading.{Reading}
 
--- The fault of a context, keeping only that it is at the key `context`.
+-- The fault of a context, converted to the fault of a document at the key `context`. The part of the context at fault is not
+-- kept.
 abbrev pub context_fault : BadContext → BadDocument
 context_fault of_context.NotObject = WrongKind field.Context
 context_fault (of_context.WrongKind part) = WrongKind field.Context
@@ -23,6 +24,6 @@ abbrev pub at_context : Result Fields BadContext → Reading Fields
 at_context (Ok context) = Ok context
 at_context (Err fault) = Err (context_fault fault)
 
--- The context at its key. If the key is absent or null, it is read from an empty object.
+-- The context at the key `context` of an object. If the key is absent or null, the context is empty.
 unfoldable pub context_in : Data → Reading Fields
 context_in value = at_context (json_context (unwrap_or (at field.Context value) (object no_members)))

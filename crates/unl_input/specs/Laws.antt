@@ -2,10 +2,10 @@
 use Rattle.std.specs.Prelude.{◌≡◌, ℕ, List, [], Ok}
 use Rattle.unl_input.specs.Taken.{Taken, Taking, lines_outcome}
 
--- no line prints anything
+-- no accepted line prints anything; a refused line is not restricted
 abbrev pub IsSilent : {D : Type 0} → Taking D → Type 0
 IsSilent {D = D} taking = (k : ℕ) (d : D) (line : List ℕ) (taken : Taken D) → taking k d line ≡ Ok taken → taken.text ≡ []
 
--- nothing is printed except the cause of a refused line
+-- the lines of an input print nothing, so that only the report of a refused line is printed
 abbrev pub PrintsCauseAlone : {D : Type 0} → Taking D → Type 0
 PrintsCauseAlone {D = D} taking = (d : D) (bytes : List ℕ) → (lines_outcome taking d bytes).text ≡ []

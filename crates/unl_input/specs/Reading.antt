@@ -1,4 +1,5 @@
--- What reading a line consumes of the held bytes and the source.
+-- The effect of reading lines through a buffer. `held` are the bytes in the buffer, and `left` are the bytes still to be read from the
+-- source (`None` if these are not observable). The names with `_after` are the values after the call.
 use Rattle.std.specs.Prelude.{◌≡◌, ◌≢◌, ℕ, ◌<◌, ◌≤◌, List, [], ◌∷◌, ◌++◌, length, Option, Bool, true, false}
 use Rattle.unl_base.specs.Streams.{Takes, HasEnded}
 use Rattle.unl_input.specs.declared.reader.NextLine.{NextLine}
@@ -7,7 +8,7 @@ use Rattle.unl_input.specs.declared.reader.ReadFault.{ReadFault}
 use Rattle.unl_input.specs.declared.reader.ReadFault.TheVariants.{Failed, TooLong, Memory}
 use Rattle.unl_input.specs.Lines.{has_end}
 
--- the source gave some bytes, and `out` was consumed as a prefix of the held bytes followed by those
+-- A call consumed the bytes `out`: it appended the bytes `read` from the source to the buffer, and removed `out` from the buffer's front.
 pub record Gets
     (held : List ℕ) (left : Option (List ℕ)) (out held_after : List ℕ) (left_after : Option (List ℕ)) : Type 0 where
   pub read : List ℕ
@@ -27,7 +28,7 @@ pub record IsTextLine (line : List ℕ) : Type 0 where
   pub unbroken : has_end line ≡ false
   pub short : length line ≤ longest_line
 
--- bytes are held, or the input has ended
+-- bytes are held (`true`), or the input has ended (`false`); nothing was consumed
 abbrev pub Fills : Bool → List ℕ → Option (List ℕ) → List ℕ → Option (List ℕ) → Type 0
 Fills true held left held_after left_after = Gets held left [] held_after left_after × (0 < length held_after)
 Fills false held left held_after left_after = Gets held left [] held_after left_after × IsAtEnd held_after left_after
@@ -53,7 +54,7 @@ abbrev pub ConsumesPiece : Bool → List ℕ → List ℕ → List ℕ → List 
 ConsumesPiece true line held line_after held_after = EndsLine line held line_after held_after
 ConsumesPiece false line held line_after held_after = GrowsLine line held line_after held_after
 
--- the next item was consumed
+-- the next item was consumed: a line with its line feed, the last line without one, or nothing at the end
 abbrev pub TakesNext : NextLine → List ℕ → Option (List ℕ) → List ℕ → Option (List ℕ) → Type 0
 TakesNext (Line line) held left held_after left_after = IsTextLine line.items × Gets held left (line.items ++ 10 ∷ []) held_after left_after
 TakesNext (Last line) held left held_after left_after =
@@ -71,7 +72,7 @@ pub record BeginsLong (held : List ℕ) (left : Option (List ℕ)) (held_after :
   pub begun : BeginsLine held left held_after left_after
   pub long : longest_line < length begun.prefix
 
--- what was consumed when no line could be read
+-- the bytes that were consumed although no line was returned: the start of a line
 abbrev pub StopsAtFault : ReadFault → List ℕ → Option (List ℕ) → List ℕ → Option (List ℕ) → Type 0
 StopsAtFault Failed held left held_after left_after = BeginsLine held left held_after left_after × (held_after ≡ [])
 StopsAtFault TooLong held left held_after left_after = BeginsLong held left held_after left_after

@@ -7,7 +7,7 @@ use Rattle.unl_input.specs.declared.refusal.InputRefusal.TheVariants.{BadInput, 
 use Rattle.unl_input.specs.declared.refusal.WriteLineFault.{WriteLineFault}
 use Rattle.unl_input.specs.declared.refusal.WriteLineFault.TheVariants.{WriteFault, Memory}
 
--- The text of the cause.
+-- The cause of a refusal as text: the text of the input's fault, or `TooLarge`.
 abbrev pub refusal_text : InputRefusal → List ℕ
 refusal_text (BadInput fault) = fault_text fault
 refusal_text TooLarge = codes "TooLarge"

@@ -1,11 +1,11 @@
--- What the lines of an input print, the state after them, and how they end.
+-- The text that the lines of an input print, the state after them, and whether a line is refused.
 use Rattle.std.specs.Prelude.{ℕ, ◌+◌, List, [], ◌∷◌, ◌++◌, length, take, codes, decimal, if◌then◌else◌, nat_lt, Result, Ok, Err}
 use Rattle.unl_input.specs.Lines.{lines, ended_lines}
 use Rattle.unl_input.specs.Reading.{longest_line}
 
 -- ---- one line
 
--- what a line prints, and the state after it
+-- the text that a line prints, and the state after it
 pub record Taken (D : Type 0) : Type 0 where
   pub text : List ℕ
   pub desk : D
@@ -14,7 +14,7 @@ pub record Taken (D : Type 0) : Type 0 where
 abbrev pub LineResult : Type 0 → Type 0
 LineResult D = Result (Taken D) (List ℕ)
 
--- the result of a line, by its number and the state before it
+-- the specification of a line's result, given its number, the state before it and its bytes
 abbrev pub Taking : Type 0 → Type 0
 Taking D = ℕ → D → List ℕ → LineResult D
 
@@ -22,7 +22,7 @@ Taking D = ℕ → D → List ℕ → LineResult D
 abbrev pub most_lines : ℕ
 most_lines = 1000000
 
--- the result of line `k`, with the limits checked
+-- the result of line `k`, after the limits on the count and the length of lines are checked
 abbrev pub take_line : {D : Type 0} → Taking D → ℕ → D → List ℕ → LineResult D
 take_line taking k d line =
     if nat_lt most_lines k then Err (codes "TooManyLines")
@@ -32,14 +32,14 @@ take_line taking k d line =
 abbrev pub refused_text : ℕ → List ℕ → List ℕ
 refused_text k cause = codes "refused: line " ++ (decimal k ++ (codes ": " ++ (cause ++ codes "\n")))
 
--- what is printed for a line, refused or not
+-- the text that is printed for a line, refused or not
 abbrev pub printed : {D : Type 0} → ℕ → LineResult D → List ℕ
 printed k (Ok taken) = taken.text
 printed k (Err cause) = refused_text k cause
 
 -- ---- all lines
 
--- how the lines end: with the input, or at a refused line, given by its number and the text of the cause
+-- how the processing ends: all lines were processed, or a line is refused, given by its number and the text of the cause
 pub data Ending : Type 0 where
   done : Ending
   refused : ℕ → List ℕ → Ending
@@ -49,12 +49,13 @@ abbrev pub IsRefused : Ending → Type 0
 IsRefused done = ⊥
 IsRefused (refused k cause) = Unit {0}
 
--- what is printed last
+-- the text that is printed last: the report of a refused line, if there is one
 abbrev pub ending_text : Ending → List ℕ
 ending_text done = []
 ending_text (refused k cause) = refused_text k cause
 
--- what the lines print up to their end, how they end, and the state after all lines that were not refused
+-- the text that the lines print before any is refused, how the processing ends, and the state after all lines that were not
+-- refused
 pub record LinesOutcome (D : Type 0) : Type 0 where
   pub text : List ℕ
   pub ending : Ending

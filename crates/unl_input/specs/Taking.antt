@@ -5,8 +5,8 @@ use Rattle.unl_input.specs.declared.line.LineRefusal.{LineRefusal}
 use Rattle.unl_input.specs.declared.line.LineRefusal.TheVariants.{Cause, Memory}
 use Rattle.unl_input.specs.Taken.{LineResult}
 
--- What a line printed and the state after it are the result of the line. So is the cause for which it is refused, unless
--- memory ran out.
+-- The processing of a line agrees with the line's specified result `comes`: both give the same text and the same state (`after`), or both
+-- refuse the line for the same cause. If memory ran out, nothing is claimed.
 abbrev pub TakesLine : {D : Type 0} → Result (Vec ℕ Global) LineRefusal → D → LineResult D → Type 0
 TakesLine (Ok text) after comes = comes ≡ Ok (record { text = text.items; desk = after })
 TakesLine (Err (Cause cause)) after comes = comes ≡ Err cause

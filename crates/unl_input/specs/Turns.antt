@@ -1,4 +1,4 @@
--- One turn: the bytes consumed, and the text sent.
+-- One turn of the loop over the lines, which reads and processes one line: the bytes consumed, and the text sent.
 use Rattle.std.specs.Prelude.{◌≡◌, ℕ, ◌+◌, ◌≤◌, List, [], ◌∷◌, ◌++◌, Option, Result, Ok, Err, false}
 use Rattle.unl_base.specs.Streams.{Sends, SendsPrefix}
 use Rattle.unl_input.specs.declared.taking.LinesFault.{LinesFault}
@@ -9,14 +9,15 @@ use Rattle.unl_input.specs.Lines.{lines, has_end}
 use Rattle.unl_input.specs.Reading.{Gets, IsAtEnd, BeginsLine}
 use Rattle.unl_input.specs.Taken.{LineResult, LinesOutcome, Taking, done, refused, take_from, take_line, whole_text, refused_text, printed}
 
--- the report of a refused line was printed, as far as the fault implies
+-- the part of the report of a refused line that was sent: all of it (`Bad`), a prefix (`WriteFault`) or nothing (`Memory`)
 abbrev pub PrintsCause : LinesFault → ℕ → List ℕ → Option (List ℕ) → Option (List ℕ) → Type 0
 PrintsCause Bad k cause old new = Sends old (refused_text k cause) new
 PrintsCause ReadFault k cause old new = ⊥
 PrintsCause WriteFault k cause old new = SendsPrefix old (refused_text k cause) new
 PrintsCause Memory k cause old new = new ≡ old
 
--- The result of a line was printed, as far as the result of the call implies.
+-- The part that was sent of the text for line `k`. The text is the line's output or, if the line is refused, the report of the
+-- refusal. All of it was sent, a prefix if a write failed, or nothing if memory ran out.
 abbrev pub Prints : {D : Type 0} → Result (Unit {0}) LinesFault → ℕ → LineResult D → D → Option (List ℕ) → Option (List ℕ) → Type 0
 Prints (Ok u) k comes desk old new = (text : List ℕ) × (comes ≡ Ok (record { text = text; desk = desk })) × Sends old text new
 Prints (Err Bad) k comes desk old new = (cause : List ℕ) × (comes ≡ Err cause) × Sends old (refused_text k cause) new
@@ -24,12 +25,12 @@ Prints (Err ReadFault) k comes desk old new = ⊥
 Prints (Err WriteFault) k comes desk old new = SendsPrefix old (printed k comes) new
 Prints (Err Memory) k comes desk old new = new ≡ old
 
--- The state has room for the next line or, at the end of the input, for some line up to that one.
+-- The state satisfies `fits` for the number of the next line or, at the end of the input, for some number up to that one.
 abbrev pub FitsAfter : {D : Type 0} → (ℕ → D → Type 0) → ℕ → Progress → D → Type 0
 FitsAfter fits k Line desk = fits (k + 1) desk
 FitsAfter fits k Over desk = (n : ℕ) × (n ≤ k + 1) × fits n desk
 
--- the state of the lines, the bytes read ahead, the bytes to come, and the bytes sent
+-- the state that the lines change, the bytes in the buffer, the bytes still to be read, and the bytes sent
 pub record LinesScene (D : Type 0) : Type 0 where
   pub desk : D
   pub held : List ℕ
@@ -62,7 +63,7 @@ pub record ReachesEnd {D : Type 0} (taking : Taking D) (k : ℕ) (before after :
   pub is : take_from taking k before.desk (lines out) ≡ record { text = text; ending = done; desk = after.desk }
   pub sent : Sends before.sent text after.sent
 
--- line `k` is refused, whatever follows
+-- line `k` is refused, no matter which bytes follow
 pub record IsRefusedAt {D : Type 0} (taking : Taking D) (k : ℕ) (before after : LinesScene D) : Type 0 where
   pub out : List ℕ
   pub cause : List ℕ
@@ -89,13 +90,13 @@ pub record StopsReading {D : Type 0} (before after : LinesScene D) : Type 0 wher
   pub none : after.held ≡ []
   pub sent : after.sent ≡ before.sent
 
--- memory ran out: nothing was printed, and at most one line was consumed
+-- memory ran out: nothing was printed; some bytes may have been consumed
 pub record RunsOutAtLine {D : Type 0} (before after : LinesScene D) : Type 0 where
   pub out : List ℕ
   pub got : ConsumesBytes before out after
   pub sent : after.sent ≡ before.sent
 
--- the effect of one turn: a line is processed, the input has ended, or it failed, or memory ran out
+-- the effect of one turn, by its result
 abbrev pub HasTurnEffect : {D : Type 0} → Taking D → Result Progress LinesFault → ℕ → LinesScene D → LinesScene D → Type 0
 HasTurnEffect taking (Ok Line) k before after = ProcessesLine taking k before after
 HasTurnEffect taking (Ok Over) k before after = ReachesEnd taking k before after

@@ -1,4 +1,4 @@
--- How the lines of a whole input end: what was read from the source, and what was sent.
+-- The effect of processing all lines of an input: the bytes read from the source, and the text sent to the sink.
 use Rattle.std.specs.Prelude.{◌≡◌, List, [], ◌++◌, ℕ, Option, Result, Ok, Err}
 use Rattle.unl_base.specs.Streams.{Takes, HasEnded, Sends, SendsPrefix}
 use Rattle.unl_input.specs.declared.taking.LinesFault.{LinesFault}
@@ -22,7 +22,7 @@ pub record AnswersRead {D : Type 0} (taking : Taking D) (desk : D) (left left_af
   pub took : Takes left read left_after
   pub answered : IsAnswered (ended_lines_outcome taking desk read) old new
 
--- these bytes were read, and `P` holds for the whole input, whatever follows them
+-- some bytes were read, and `P` holds for these and any bytes that may follow; none follow if the source has ended
 pub record HoldsOfRead (left left_after : Option (List ℕ)) (P : List ℕ → Type 0) : Type 0 where
   pub read : List ℕ
   pub took : Takes left read left_after
@@ -41,7 +41,7 @@ pub record AnswersInput {D : Type 0} (taking : Taking D) (desk : D) (left left_a
   pub end : HasEnded left_after
   pub answered : IsAnswered (lines_outcome taking desk read) old new
 
--- the input was read to its end, its lines were processed, and the state is the one that they leave
+-- the input was read to its end, its lines were processed, and `desk_after` is the state after them
 pub record AnswersAllLines {D : Type 0} (taking : Taking D) (desk desk_after : D) (left left_after old new : Option (List ℕ)) : Type 0 where
   pub read : List ℕ
   pub took : Takes left read left_after
@@ -49,8 +49,8 @@ pub record AnswersAllLines {D : Type 0} (taking : Taking D) (desk desk_after : D
   pub answered : IsAnswered (lines_outcome taking desk read) old new
   pub leaves : (lines_outcome taking desk read).desk ≡ desk_after
 
--- How the lines end, given the bytes to come and the bytes sent, before and after. This doesn't depend on whether either is
--- observable.
+-- The effect of processing the lines of an input, by its result. `left` and `left_after` are the bytes still to be read before
+-- and after, and `old` and `new` are the bytes sent before and after. Either may be unobservable (`None`).
 abbrev pub TakesLines : {D : Type 0} → Taking D → D → Result (Unit {0}) LinesFault → Option (List ℕ) → Option (List ℕ) → Option (List ℕ)
     → Option (List ℕ) → Type 0
 TakesLines taking desk (Ok u) left left_after old new = AnswersInput taking desk left left_after old new

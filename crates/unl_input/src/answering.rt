@@ -76,7 +76,7 @@ pub fn answer_input<A: InputAnswer, S: Source, K: Sink>(
     ensures write { IsErrOf result AnswerFault.WriteFault → Rose (K.faults sink.old) (K.faults sink.new) }
     ensures source_later { S.faults source.old ≤ S.faults source.new }
     ensures sink_later { K.faults sink.old ≤ K.faults sink.new }
-    // A failed read is never returned as anything but `ReadFault`.
+    // If the result is not `ReadFault`, the fault count of the source is unchanged.
     ensures untouched { result ≢ Err AnswerFault.ReadFault → S.faults source.new ≡ S.faults source.old }
 {
     let bytes = match read_input(alloc, source) {

@@ -14,8 +14,8 @@ use unl_documents::{BadDocument, Field};
 /// Reads the context at the key `context` of an object. If the key is absent or null, the context is empty.
 ///
 /// # Errors
-/// `WrongKind` or `TooLarge` with the field `Context`, whichever part of the context is at fault, or `Memory` if memory ran
-/// out.
+/// `WrongKind` or `TooLarge` with the field `Context`, for a fault in any part of the context, or `Memory` if memory
+/// ran out.
 #[tactic(auto, unfolding(crate::specs::Contexts::context_in))]
 pub fn context_in(alloc: Global, value: &Value) -> Result<Context, BadDocument>
     ensures { Gives result (context_in (view value.now)) }
@@ -26,6 +26,7 @@ pub fn context_in(alloc: Global, value: &Value) -> Result<Context, BadDocument>
     }
 }
 
+/// Reads a context from a JSON value. A fault becomes the fault of a document at the key `context`.
 fn context_of(alloc: Global, value: &Value) -> Result<Context, BadDocument>
     ensures { Gives result (at_context (json_context (view value.now))) }
 {
@@ -35,7 +36,8 @@ fn context_of(alloc: Global, value: &Value) -> Result<Context, BadDocument>
     }
 }
 
-/// Converts the fault of a context, keeping only that it is at the key `context`.
+/// Converts the fault of a context to the fault of a document at the key `context`. The part of the context at fault is
+/// not kept.
 fn context_fault(fault: BadContext) -> BadDocument
     ensures { result ≡ context_fault fault }
 {

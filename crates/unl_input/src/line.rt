@@ -1,4 +1,4 @@
-//! The processing of one line.
+//! The interface between the loop over the lines of an input and the processing of one line.
 ghost use Rattle.std.specs.Prelude.{◌≡◌, ◌+◌, ◌≤◌, ℕ, List, Result, OnOk};
 ghost use Rattle.unl_input.specs.Taken.{Taken, most_lines};
 ghost use Rattle.unl_input.specs.Taking.{TakesLine};
@@ -45,14 +45,15 @@ pub trait LineProcessor {
     /// The state that the lines change.
     type Desk;
 
-    // The result of a line, by its number and the state before it: what it prints and the state after it, or the text of
-    // the cause for which it is refused.
+    // The result of a line, given its number, the state before it and its bytes: the text that it prints and the state
+    // after it, or the cause for which it is refused.
     ghost line_result: { ℕ → Self.Desk → List ℕ → Result (Taken Self.Desk) (List ℕ) };
 
-    // The state has room for the line with this number.
+    // A condition on the state before the line with this number, for example that no counter is at its maximum.
     ghost fits: { ℕ → Self.Desk → Type 0 };
 
-    /// Processes the line with this number, given without its line feed. Returns what it prints.
+    /// Processes the line with this number, counted from 1. `line` has no line feed. Returns the text that the line
+    /// prints.
     ///
     /// # Errors
     /// `Cause` if the line is refused, and `Memory` if memory runs out.

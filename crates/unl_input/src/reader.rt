@@ -1,4 +1,4 @@
-//! Reads the lines of a source.
+//! Reads lines and single bytes from a source through a buffer.
 ghost use Rattle.std.specs.Prelude.{◌≡◌, ◌<◌, ◌≤◌, [], ◌∷◌, ℕ, length, take, drop, IfOk, IfErr, OnErr, IsErrOf, MatchOption};
 ghost use Rattle.std.specs.List.{position_or_len};
 ghost use Rattle.unl_base.specs.Faults.{HasCause, Rose};
@@ -76,7 +76,7 @@ impl From<Failed> for ReadFault {
     }
 }
 
-/// The number of bytes before the first line feed, or of all bytes if there is none.
+/// Returns the number of bytes before the first line feed, or of all bytes if there is none.
 fn unbroken_len(bytes: &[u8]) -> usize
     ensures { result ≡ position_or_len is_end bytes.now }
 {
@@ -86,7 +86,7 @@ fn unbroken_len(bytes: &[u8]) -> usize
     }
 }
 
-/// A read buffer. Contracts see it as the list of bytes that it holds.
+/// A read buffer. In contracts it is the list of the bytes that it holds: those that were read but not yet consumed.
 #[derive(Drop)]
 pub struct LineReader {
     room: Vec<u8>,
@@ -119,7 +119,7 @@ impl LineReader {
         })
     }
 
-    /// Takes the first held byte.
+    /// Removes the first byte from the buffer and returns it.
     fn take_held(&mut self) -> u8
         requires { 0 < length self.old }
         ensures { self.old ≡ result ∷ self.new }
@@ -129,7 +129,7 @@ impl LineReader {
         byte
     }
 
-    /// Reads into the empty buffer, and returns how many bytes were read. 0 means that the source has ended.
+    /// Reads into the empty buffer and returns the number of bytes that were read. 0 means that the source has ended.
     fn read_ahead<S: Source>(&mut self, source: &mut S) -> Result<usize, Failed>
         requires { self.old ≡ [] }
         ensures read { IfOk result (λ n. Takes (S.left source.old) self.new (S.left source.new)) }
@@ -160,7 +160,7 @@ impl LineReader {
         Ok(true)
     }
 
-    /// The held bytes, at most the first `most`.
+    /// Returns the first bytes of the buffer, at most `most`.
     fn prefix(&self, most: usize) -> &[u8]
         ensures { result.now ≡ take most self.now }
     {
@@ -168,7 +168,7 @@ impl LineReader {
         &held[..held.len().min(most)]
     }
 
-    /// Drops the first `count` held bytes.
+    /// Removes the first `count` bytes from the buffer.
     fn skip(&mut self, count: usize)
         requires { count ≤ length self.old }
         ensures { self.new ≡ drop count self.old }
@@ -176,9 +176,9 @@ impl LineReader {
         self.from += count;
     }
 
-    /// Moves held bytes of the line into `line` in one step. Returns whether the line feed was found, which is consumed
-    /// too. Takes at most one byte more than a line may have, which is enough to see that the line is too long. If memory runs
-    /// out, the buffer is unchanged.
+    /// Moves bytes of the line from the buffer to the end of `line`. Returns whether the line feed was found, which is
+    /// then consumed too. `line` grows to at most one byte more than a line may have, which is enough to see that it is
+    /// too long. On an error the buffer is unchanged.
     fn take_piece(&mut self, line: &mut Vec<u8>) -> Result<bool, AllocError>
         requires held { 0 < length self.old }
         requires short { length line.old.items ≤ longest_line }
@@ -196,7 +196,7 @@ impl LineReader {
         Ok(false)
     }
 
-    /// The next byte, or `None` exactly at the end of the source.
+    /// Reads the next byte. Returns `None` exactly at the end of the source.
     ///
     /// # Errors
     /// `Failed`: the source failed.
@@ -213,7 +213,7 @@ impl LineReader {
         Ok(None)
     }
 
-    /// Reads the next line, the last line, or the end of the source.
+    /// Reads the next line. Returns `Last` for a last line without a line feed, and `End` if no bytes are left.
     ///
     /// # Errors
     /// - `Failed`: the source failed.
@@ -230,7 +230,7 @@ impl LineReader {
         ensures later { S.faults source.old ≤ S.faults source.new }
     {
         let mut line = Vec::new(alloc);
-        // The line feed can still come while the line is not too long.
+        // A line of exactly the largest size is accepted if its line feed comes next.
         'pieces: while line.len() <= LONGEST_LINE {
             if !self.fill(source)? {
                 if line.is_empty() {

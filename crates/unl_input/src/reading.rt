@@ -65,7 +65,7 @@ pub fn read_input<S: Source>(alloc: Global, source: &mut S) -> Result<List<u8>, 
     read_to_end(alloc, source, &mut room)
 }
 
-/// Reads all remaining bytes through the buffer `room`.
+/// Like [`read_input`], through the buffer `room`.
 fn read_to_end<S: Source>(
     alloc: Global,
     source: &mut S,
@@ -95,7 +95,7 @@ fn new_room(alloc: Global) -> Result<Vec<u8>, AllocError>
     vec![in alloc; 0u8; ROOM]
 }
 
-/// Appends the first `count` bytes of the read buffer.
+/// Appends the first `count` bytes of the read buffer to `bytes`.
 fn take_prefix(bytes: &mut Vec<u8>, room: &[u8], count: usize) -> Result<(), Memory>
     requires { count ≤ length room.now }
     ensures { OnOk result (bytes.new.items ≡ bytes.old.items ++ take count room.now) }

@@ -11,7 +11,7 @@ use unl_documents::{BadDocument, Memory, fault_text};
 /// Why an input is refused.
 #[derive(Debug, Drop, PartialEq, Error)]
 pub enum InputRefusal {
-    /// The input has this fault, its first. It is never `Memory`.
+    /// The first fault of the input. It is never `Memory`.
     #[error("the input is not accepted")]
     BadInput(BadDocument),
     /// The input has more than 16,777,216 bytes.

@@ -35,7 +35,7 @@ pub enum LinesFault {
     Memory,
 }
 
-/// The outcome of one turn.
+/// The outcome of reading and processing one line.
 #[derive(Clone, Copy, Debug, PartialEq, Eq)]
 pub enum Progress {
     /// A line was processed, and more may follow.
@@ -66,7 +66,7 @@ impl From<Memory> for LinesFault {
     }
 }
 
-/// The line that reports why a line is refused.
+/// Returns the line that reports why a line is refused.
 fn refused_line(alloc: Global, number: u64, cause: &str) -> Result<String, AllocError>
     ensures { IfOk result (λ s. string_bytes s ≡ refused_text number cause.now) }
 {
@@ -150,10 +150,13 @@ fn turn<A: LineProcessor, S: Source, K: Sink>(
     }
 }
 
-/// Processes the lines of an input, one after another, to its end.
+/// Processes the lines of an input, one after another, to its end. Lines are numbered from 1.
 ///
-/// A line has at most 16,777,216 bytes before its line feed, and there are at most 1,000,000 lines. The next line is
-/// refused.
+/// `A.fits number desk` is the condition of the line processor on the state before the line with this number, for
+/// example that no counter is at its maximum.
+///
+/// A line has at most 16,777,216 bytes before its line feed, and there are at most 1,000,000 lines. A longer line is
+/// refused with the cause `LineTooLong`, and line 1,000,001 with the cause `TooManyLines`.
 ///
 /// # Errors
 /// `Bad` if a line is refused, and then the cause is printed. `ReadFault` if the source failed, `WriteFault` if the sink
@@ -165,17 +168,17 @@ pub fn process_lines<A: LineProcessor, S: Source, K: Sink>(
     sink: &mut K,
 ) -> Result<(), LinesFault>
     requires { A.fits 1 desk.old }
-    // What was read and sent. On success: the whole input, and the whole text. On `Bad`: the text up to the refused line, and the
-    // cause. On `ReadFault`: the output of the lines that were read in full. On `WriteFault`: a prefix of the text. On `Memory`:
-    // the output of the first lines.
+    // What was read and sent. On success: the whole input was read, and the output of all lines was sent. On `Bad`: the
+    // output of the lines before the refused one, and the cause. On `ReadFault`: the output of the lines that were read
+    // in full. On `WriteFault`: a prefix of the whole output. On `Memory`: the output of some of the first lines.
     ensures lines { TakesLines A.line_result desk.old result (S.left source.old) (S.left source.new) (K.sent sink.old) (K.sent sink.new) }
 
-    // On success the input has ended, and the state is the one that its lines leave.
+    // On success the input has ended, and `desk` is the state after all of its lines.
     ensures all { OnOk result (AnswersAllLines A.line_result desk.old desk.new
         (S.left source.old) (S.left source.new) (K.sent sink.old) (K.sent sink.new)) }
     ensures leaves { OnOk result (IfSome (S.left source.old) (λ bytes. (lines_outcome A.line_result desk.old bytes).desk ≡ desk.new)) }
 
-    // The state has room for one more line.
+    // On success the state after all lines satisfies `fits` for some line number of at most 1,000,001.
     ensures room { OnOk result ((number : ℕ) × (number ≤ most_lines + 1) × A.fits number desk.new) }
 
     // `ReadFault` and `WriteFault` occur only if the source or the sink failed.
