@@ -1,4 +1,4 @@
--- Lemmas about the rows of a keeper, for its callers.
+-- Lemmas about the rows of a keeper, for the proofs of code that calls a keeper.
 use Rattle.std.proofs.Common.{◌≡◌, ◌≤◌, ◌⊎◌, inl, inr, ◌+◌, ℕ, List, [], ◌∷◌, ◌++◌, take, drop, length, length-append, Option, Some, None, option_map, IfSome, arith, refl, ap, sym, ◌∙◌, subst}
 use Rattle.std.proofs.lemmas.List.{drop_all, take-append-le, take_all, length-take-le}
 use Rattle.std.proofs.Math.Seq.{drop-append_seam}
@@ -7,11 +7,11 @@ use Rattle.unl_keeper.specs.State.{HasKept, IsFailed, IsWritten, KeeperState, ke
 
 -- ---- rows, with one written after the first `count`
 
--- the first `count` rows are that many
+-- if there are at least `count` rows, taking the first `count` of them gives `count` rows
 prefix_length : (count : ℕ) (list : List (List ℕ)) → count ≤ length list → length (take count list) ≡ count
 prefix_length count list has = length-take-le count list has
 
--- with the row written after them, they are one more
+-- with one row written after these, there are `count + 1` rows
 longer : (count : ℕ) (text : List ℕ) (list : List (List ℕ)) → count ≤ length list → length (take count list ++ text ∷ []) ≡ count + 1
 longer count text list has =
     let here : length (take count list) ≡ count = prefix_length count list has in

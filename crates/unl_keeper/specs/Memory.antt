@@ -1,4 +1,4 @@
--- The model of a keeper and of a maker in memory, as contracts see them.
+-- The model of a keeper in memory and of its maker (which creates keepers and takes them back), as contracts see them.
 use Rattle.std.specs.Prelude.{◌≡◌, Result, Ok, Err, None, Some, IsSome, true, false, [], ◌∷◌, ℕ, ◌+◌, ◌-◌, ◌^◌, ◌==◌, min, Bool, List}
 use Rattle.std.specs.Prelude.{Option, option_map, unwrap_or, is_some, find, if◌then◌else◌, ◌++◌, length, option_to_list}
 use Rattle.unl_keeper.specs.declared.refusal.KeepRefusal.{KeepRefusal}
@@ -12,7 +12,8 @@ pub record Counting : Type 0 where
   pub calls : ℕ
   pub faults : ℕ
 
--- `None` if call number `call` succeeds; if it fails, whether it leaves its text
+-- `None` if call number `call` succeeds. If it fails, whether it leaves its text: a failed `put` can write its text as a row after
+-- the kept ones.
 abbrev pub planned_failure : List KeepFail → ℕ → Option Bool
 planned_failure failing call = option_map (λ fail. fail.leaves) (find (λ fail. fail.call == call) failing)
 
@@ -43,7 +44,7 @@ new_keeping failing = record { opened = false; kept = []; past = None; counting 
 abbrev pub rows_of : MemoryKeeperState → List (List ℕ)
 rows_of keeping = keeping.kept ++ option_to_list keeping.past
 
--- its state as a keeper, whose rows are observable
+-- the state of a memory keeper as a `KeeperState`; its rows are observable
 abbrev pub memory_state : MemoryKeeperState → KeeperState
 memory_state keeping = record {
   opened = keeping.opened;
@@ -78,7 +79,8 @@ left_keeping text keeping = record {
   counting = after_call keeping.counting;
 }
 
--- How a call ends: success if the call is not listed as failing, `Fault` if it is. After `Memory` nothing has changed.
+-- How a call ends. It succeeds, with the state `well`, only if it is not listed as failing. It fails with `Fault`, with the
+-- state `failed`, only if it is listed. After `Memory` nothing has changed.
 abbrev pub CallOutcome :
     {T : Type 0} → MemoryKeeperState → MemoryKeeperState → MemoryKeeperState → MemoryKeeperState → Result T KeepRefusal → Type 0
 CallOutcome well failed old new (Ok answer) = (planned_failure old.counting.failing old.counting.calls ≡ None) × (new ≡ well)
@@ -90,6 +92,6 @@ pub record MemoryMakerState : Type 0 where
   pub held : List (List ℕ)
   pub faults : ℕ
 
--- its state as a maker, which holds observable rows
+-- the state of a memory maker as a `MakerState`; the rows that it holds are observable
 abbrev pub memory_maker_state : MemoryMakerState → MakerState
 memory_maker_state maker = record { held = Some maker.held; faults = maker.faults }

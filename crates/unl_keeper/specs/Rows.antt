@@ -1,4 +1,4 @@
--- The rows of a keeper, as an option: `None` for a keeper whose rows are not observable.
+-- The rows of a keeper, which stores texts in numbered rows. They are an option: `None` for a keeper whose rows are not observable.
 use Rattle.std.specs.Prelude.{ℕ, List, [], ◌∷◌, ◌++◌, take, Option, option_map}
 
 -- the kept rows: the first `count` rows

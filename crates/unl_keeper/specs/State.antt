@@ -1,4 +1,5 @@
--- The state of a keeper and of a maker of keepers, and how each call changes it.
+-- The states that contracts use for a keeper (an append-only store of texts, one text per row) and for a maker of keepers, and how each
+-- call changes them.
 use Rattle.std.specs.Prelude.{◌≡◌, ◌≤◌, ◌⊎◌, ℕ, ◌+◌, ◌-◌, Bool, true, false, List, [], length, slice_get}
 use Rattle.std.specs.Prelude.{Option, None, Some, option_and_then, Result, Ok, Err, IfOk, IfErr, IfSome}
 use Rattle.unl_keeper.specs.declared.refusal.KeepRefusal.{KeepRefusal}
@@ -8,8 +9,9 @@ use Rattle.unl_keeper.specs.Rows.{kept, with_row}
 
 -- ---- a keeper
 
--- The state of a keeper: whether it is open; its fault count, which is how often it has failed; the number of kept rows; and
--- its rows, which are the kept ones and then what a failed put left. The rows are `None` if they are not observable.
+-- The state of a keeper: whether it is open; its fault count, which rises when a call fails with `Fault`; the number of kept
+-- rows; and its rows, which are the kept ones and then what a failed put left. The rows are `None` if they are
+-- not observable: contracts can't state the rows of a SQLite database.
 pub record KeeperState : Type 0 where
   pub opened : Bool
   pub faults : ℕ
@@ -36,12 +38,12 @@ pub record KeepsAll (keeper : KeeperState) (count : ℕ) : Type 0 where
   pub counted : count ≡ keeper.count
   pub whole : IfSome keeper.rows (λ list. count ≡ length list)
 
--- the number of kept rows is unchanged after a refused open, and at `Memory` everything is
+-- after a failed open the number of kept rows is unchanged; if memory ran out, nothing is changed
 abbrev pub FailsToOpen : KeeperState → KeeperState → KeepRefusal → Type 0
 FailsToOpen old new Fault = new.count ≡ old.count
 FailsToOpen old new Memory = new ≡ old
 
--- The keeper was opened, or not. Its rows are unchanged in every case, and it stays open if it was.
+-- The effect of `open`. Whether it succeeds or fails, the rows are unchanged, and a keeper that was open stays open.
 pub record Opens (old : KeeperState) (result : Result ℕ KeepRefusal) (new : KeeperState) : Type 0 where
   pub opened : IfOk result (KeepsAll new)
   pub rows : new.rows ≡ old.rows
@@ -73,7 +75,7 @@ PutsRow text old (Err Memory) new = new ≡ old
 
 -- ---- a read
 
--- The row at this place was read, or not. Nothing but the fault count changes. There is no row only if the rows are not
+-- The effect of reading the row at `place`. At most the fault count changes. `None` is returned only if the rows are not
 -- observable.
 pub record ReadsRow (place : ℕ) (old : KeeperState) (result : Result (Option (List ℕ)) KeepRefusal) (new : KeeperState) : Type 0 where
   pub opened : new.opened ≡ true
@@ -84,14 +86,15 @@ pub record ReadsRow (place : ℕ) (old : KeeperState) (result : Result (Option (
 
 -- ---- a maker
 
--- The state of a maker: the rows kept by the keeper that was returned last, if observable, which are none before the first
--- return; and its fault count, which is how many calls have failed, plus how many returned keepers had a fault count above 0.
+-- The state of a maker. `held` are the kept rows of the keeper that the maker took back last, if they are observable. Before the
+-- maker takes back a keeper, there are no such rows. `faults` is its fault count. It rises when a call fails with `Fault`, and when
+-- the maker takes back a keeper whose fault count is above 0.
 pub record MakerState : Type 0 where
   pub held : Option (List (List ℕ))
   pub faults : ℕ
 
--- A new keeper: it is not open and has a fault count of 0. If what its maker holds is observable, its rows are too, and it
--- has none.
+-- A new keeper: it is not open and has a fault count of 0. If the rows held by its maker are observable, so are the keeper's
+-- rows, and there are none.
 pub record IsNewKeeper (held : Option (List (List ℕ))) (keeper : KeeperState) : Type 0 where
   pub unopened : keeper.opened ≡ false
   pub faultless : keeper.faults ≡ 0

@@ -1,4 +1,5 @@
-//! A keeper in memory. Calls chosen when it is created fail.
+//! A keeper (an append-only store of texts, one for each row) that is in memory. For tests of faults, its creator can
+//! list calls that fail.
 ghost use Rattle.std.specs.Prelude.{◌<◌, true, ◌+◌, ◌≡◌, [], ◌∷◌, ◌++◌, ◌-◌, ◌≤◌, None, Some, false, length, slice_get, IfOk, IfErr};
 ghost use Rattle.std.specs.Prelude.{OnOk, is_some, if◌then◌else◌};
 ghost use Rattle.unl_keeper.specs.Faults.{KeeperHasCause, CountRose};
@@ -13,12 +14,13 @@ use std::alloc::Global;
 use std::marker::Model;
 use unl_documents::{List, Text};
 
-/// Names a call that fails. Calls of `open`, `put` and `read` are numbered together, from 0.
+/// A call that is to fail with `Fault`. Calls of `open`, `put` and `read` are numbered together, from 0. A call that
+/// runs out of memory is not counted: the next call has the same number.
 #[derive(Clone, Copy, Debug, PartialEq, Eq)]
 pub struct KeepFail {
     /// The number of the call.
     pub call: u64,
-    /// If the call is a `put`: whether it leaves its text in the row after the kept ones.
+    /// If the call is a `put`: whether it writes its text after the kept rows before it fails. Ignored for other calls.
     pub leaves: bool,
 }
 
@@ -38,7 +40,7 @@ impl Model for Calls {
     ghost view = { λ c. record { failing = c.failing; calls = c.calls; faults = c.faults } };
 }
 
-/// Returns `None` if call number `call` succeeds. If it fails, returns whether it leaves its text.
+/// Returns `None` if call number `call` is not listed as failing. If it is, returns its `leaves`.
 fn planned_failure(failing: &[KeepFail], call: u64) -> Option<bool>
     ensures { result ≡ planned_failure failing.now call }
 {
@@ -49,7 +51,7 @@ fn planned_failure(failing: &[KeepFail], call: u64) -> Option<bool>
 }
 
 impl Calls {
-    /// Returns `None` if the next call succeeds. If it fails, returns whether it leaves its text.
+    /// Returns `None` if the next call is not listed as failing. If it is, returns its `leaves`.
     fn fails(&self) -> Option<bool>
         ensures { result ≡ planned_failure self.now.failing self.now.calls }
     {
@@ -147,7 +149,7 @@ impl MemoryKeeper {
         Ok(())
     }
 
-    /// Sets the row after the kept ones, if the call `leaves` its text.
+    /// If `leaves`, sets the row after the kept rows, as a put does that writes its text and then fails.
     fn leave(&mut self, leaves: bool, row: Text)
         ensures { self.new ≡ record self.old { past = if leaves then Some row else self.old.past } }
     {
@@ -157,7 +159,7 @@ impl MemoryKeeper {
     }
 }
 
-/// Returns row `place`, numbered from 1.
+/// Returns row `place`, numbered from 1, or `None` if there are fewer rows.
 fn row_at(alloc: Global, rows: &[Text], place: u64) -> Result<Option<Text>, KeepRefusal>
     requires { 1 ≤ place }
     ensures row { IfOk result (λ found. found ≡ slice_get rows.now (place - 1)) }
@@ -172,7 +174,7 @@ fn row_at(alloc: Global, rows: &[Text], place: u64) -> Result<Option<Text>, Keep
 impl Keeper for MemoryKeeper {
     ghost state = { memory_state };
 
-    /// Fails with `Fault` exactly if this call is listed as failing.
+    /// Fails with `Fault` exactly if this call is listed as failing. Otherwise it can fail with `Memory`.
     fn open(&mut self, _alloc: Global) -> Result<u64, KeepRefusal>
         ensures opens { Opens (memory_state self.old) result (memory_state self.new) }
         ensures cause { KeeperHasCause self.old.counting.faults self.new.counting.faults result }
@@ -192,7 +194,8 @@ impl Keeper for MemoryKeeper {
         self.kept.len() as u64
     }
 
-    /// Fails with `Fault` exactly if this call is listed as failing.
+    /// Fails with `Memory` if there is no memory for a copy of the text, even if this call is listed as failing. If the
+    /// text is copied, fails with `Fault` exactly if the call is listed.
     fn put(&mut self, alloc: Global, text: &Text) -> Result<(), KeepRefusal>
         requires { self.old.opened ≡ true }
         ensures puts { PutsRow text.now (memory_state self.old) result (memory_state self.new) }
@@ -213,7 +216,7 @@ impl Keeper for MemoryKeeper {
         }
     }
 
-    /// Fails with `Fault` exactly if this call is listed as failing.
+    /// Fails with `Fault` exactly if this call is listed as failing. Otherwise it can fail with `Memory`.
     fn read(&mut self, alloc: Global, place: u64) -> Result<Option<Text>, KeepRefusal>
         requires opened { self.old.opened ≡ true }
         requires place { (1 ≤ place) × (place ≤ length self.old.kept) }

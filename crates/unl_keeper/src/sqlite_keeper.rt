@@ -10,13 +10,14 @@ use std::marker::Model;
 use unl_documents::Text;
 
 /// A keeper whose rows are those of the table `kept(place INTEGER PRIMARY KEY, text TEXT NOT NULL)`. `open` creates the table
-/// if it does not exist. The rows are not observable.
+/// if it does not exist. Contracts do not describe the rows. They describe only whether the keeper is open, the number
+/// of kept rows and the fault count.
 ///
 /// Each put is one upsert at the row after the greatest `place`, so it replaces what a failed put left. The connection must
 /// not be in a transaction, or a put commits nothing.
 ///
-/// A statement that fails for any reason but memory counts as a fault. So do a greatest `place` below 1 and a row that does
-/// not hold text. A missing row does not.
+/// A statement that fails for any reason other than out of memory is a fault. A greatest `place` below 1 is a fault
+/// too, and so is a row that does not hold text. A missing row is not a fault.
 pub struct SqliteKeeper<D: Alter> {
     connection: Connection<D>,
     opened: bool,
@@ -53,7 +54,7 @@ fn refusal(error: Error) -> KeepRefusal
     }
 }
 
-// The four functions below have no contract, so that no proof carries the state of the database.
+// The seven functions below have no contract, so that the proofs of their callers need not describe the database.
 
 /// Creates the table if it does not exist.
 fn create<D: Alter>(connection: &mut Connection<D>) -> Result<usize, Error> {

@@ -8,8 +8,9 @@ use sqlite::{Connection, MemStore};
 use std::alloc::Global;
 use std::marker::Model;
 
-/// Creates keepers, each over its own database in memory. What a returned keeper kept is not observable. In contracts a maker
-/// is its fault count: how many returned keepers had failed.
+/// Creates keepers, each over its own database in memory. The rows of a keeper are not observable after `back` takes it
+/// back, so the contracts describe a maker by its fault count alone: the number of keepers taken back whose own fault
+/// count was above 0.
 #[derive(Debug, Drop)]
 pub struct SqliteMaker {
     faults: u64,
