@@ -1,5 +1,6 @@
-//! Tests of keepers and of kept commands that no run of the program covers: a keeper in memory that has rows, and what a
-//! reopened upstream has after its machine stopped at any disk call.
+//! Tests of keepers, the stores in which an upstream keeps its commands, for cases that no run of a program covers.
+//! One reopens a keeper in memory that already has rows. The other stops a simulated machine at each disk call in turn,
+//! and checks which commands the reopened upstream has.
 #![tactic(auto)]
 
 #[cfg(test)]

@@ -1,4 +1,4 @@
-//! A test that reopens a keeper in memory which has rows already. No program does that.
+//! A test that reopens a keeper in memory that already has rows, which no program does.
 use crate::upstreams::{opened, put, state_of_dev};
 use std::alloc::Global;
 use unl_documents::List;

@@ -1,4 +1,5 @@
-//! A test that stops the machine at each of its disk calls in turn, while an upstream keeps commands.
+//! A crash test: stops the machine at each of its disk calls in turn while an upstream keeps commands, and checks that
+//! the reopened upstream has the acknowledged commands and at most one more.
 ghost use Rattle.std.specs.Prelude.{◌≡◌, true};
 
 use crate::machine::Machine;
@@ -14,10 +15,11 @@ use unl_upstream::Upstream;
 /// The names of the features that ten commands put, in this order.
 const NAMES: &str = "abcdefghij";
 
-/// An upper bound on the disk calls of a run.
+/// An upper bound on the number of disk calls of a run.
 const MOST: u64 = 2000;
 
-/// Puts the features in order until one is not acknowledged with the next version number, and returns how many were.
+/// Puts the features in order, and stops at the first put that is not acknowledged with the next version number.
+/// Returns the number of puts that were acknowledged with it.
 fn put_all<K: Keeper>(alloc: Global, up: &mut Upstream, keeper: &mut K) -> u64
     requires { (K.state keeper.old).opened ≡ true }
     ensures { (K.state keeper.new).opened ≡ true }
@@ -75,7 +77,7 @@ fn found<D: Disk + Drop>(alloc: Global, files: Files<D>) -> Option<u64> {
     }
 }
 
-/// Returns what a stop leaves of a file: all that was written, or if the stop `loses` what was not synced, only the rest.
+/// Returns a file as it is after the machine stopped. If `loses` is true, the writes that were not synced are lost.
 fn after(machine: Machine<Memory>, loses: bool) -> Memory {
     let mut disk = machine.into_inner();
     if loses {
@@ -84,7 +86,7 @@ fn after(machine: Machine<Memory>, loses: bool) -> Memory {
     disk
 }
 
-/// Returns two empty files of a machine that stops when no call is left.
+/// Returns the log and the database file, both empty, of a machine that stops when `calls_left` is 0.
 fn files_of(alloc: Global, calls_left: &Rc<Cell<u64>>) -> Option<Files<Machine<Memory>>> {
     Some(Files {
         log: Machine::new(Memory::new(alloc), calls_left.clone().ok()?),
@@ -92,8 +94,8 @@ fn files_of(alloc: Global, calls_left: &Rc<Cell<u64>>) -> Option<Files<Machine<M
     })
 }
 
-/// Runs on a machine that stops after this number of disk calls. Returns how many commands were acknowledged, how many are
-/// found after reopening, and whether the machine used up its calls.
+/// Runs on a machine that stops after `calls` disk calls. Returns how many commands were acknowledged, how many the
+/// reopened upstream has, and whether the machine used up its calls.
 fn stops_at(alloc: Global, calls: u64, loses: bool) -> Option<(u64, u64, bool)> {
     let calls_left = Rc::new(alloc, Cell::new(calls)).ok()?;
     let (done, Files { log, db }) = run(alloc, files_of(alloc, &calls_left)?);
@@ -104,9 +106,9 @@ fn stops_at(alloc: Global, calls: u64, loses: bool) -> Option<(u64, u64, bool)> 
     Some((done, found(alloc, files)?, calls_left.get() == 0))
 }
 
-/// Runs with 0, 1, 2 and so on allowed disk calls, and returns the first number that a run does not use up. Returns `None` if
-/// some reopened upstream has neither exactly the acknowledged commands nor these and one more, or if that of the last run does
-/// not have all ten.
+/// Runs with 0, 1, 2 and so on allowed disk calls, and returns the first number that a run does not use up. Returns
+/// `None` if the test fails: a reopened upstream has fewer commands than were acknowledged, or more than one more, or
+/// after the last run it does not have all ten.
 fn calls_of_a_run(alloc: Global, loses: bool) -> Option<u64> {
     for calls in 0..MOST {
         let (done, found, stopped) = stops_at(alloc, calls, loses)?;

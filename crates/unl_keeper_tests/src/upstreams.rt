@@ -10,7 +10,7 @@ use unl_keeper::Keeper;
 use unl_tokens::Book;
 use unl_upstream::{Command, Upstream, keep, read_command, reopen};
 
-/// Creates an upstream of the environment `dev` that has applied no command.
+/// Creates an upstream with the environment `dev`, in its initial state.
 fn fresh(alloc: Global) -> Option<Upstream>
     ensures { IfSome result IsOpening }
 {
@@ -43,7 +43,7 @@ fn command_of(alloc: Global, name: char) -> Option<Command>
     }
 }
 
-/// Puts a feature of this name, and returns its version number if the command is acknowledged.
+/// Puts a feature with this name, and returns the new version number of `dev` if the command is acknowledged.
 pub(crate) fn put<K: Keeper>(
     alloc: Global,
     up: &mut Upstream,
