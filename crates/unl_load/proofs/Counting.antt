@@ -7,7 +7,7 @@ use Rattle.unl_documents.specs.declared.state.State.{State}
 use Rattle.unl_load.specs.Input.{ask_by, asks, is_on_for}
 use Rattle.unl_load.specs.Words.{next_word, next}
 
--- the count so far and that of the remaining asks make the total
+-- the count so far plus the count of the remaining asks is the total count
 pub record Counts (state : State) (words : Lcg) (count asked on : ℕ) (left : Lcg) : Type 0 where
   pub all : on + count_by (is_on_for state) (asks (count - asked) left) ≡ count_by (is_on_for state) (asks count words)
   pub most : on ≤ asked
@@ -51,7 +51,7 @@ none_left : (words : Lcg) → asks 0 words ≡ []
 unfolding asks
 none_left words = refl
 
--- after all asks
+-- after all asks, the count is the total count
 pub all_counted : (state : State) (words : Lcg) (count asked on : ℕ) (left : Lcg) → count ≤ asked → Counts state words count asked on left
     → on ≡ count_by (is_on_for state) (asks count words)
 all_counted state words count asked on left over counts =

@@ -127,7 +127,7 @@ state_valid words = record {
 
 -- ---- one by one
 
--- the features so far and the remaining ones are all of them, and the words that remain are those after the features so far
+-- the features so far, followed by the remaining ones, are all features; the remaining words follow those of the features so far
 pub record Makes (words : Lcg) (place : ℕ) (made : List Feature) (left : Lcg) : Type 0 where
   pub all : made ++ features_from place (1000 - place) left ≡ features_from 0 1000 words
   pub taken : behind (1000 - place) left ≡ behind 1000 words
@@ -167,7 +167,7 @@ behind_none : (words : Lcg) → behind 0 words ≡ words
 unfolding behind
 behind_none words = refl
 
--- after all features
+-- after all features were generated, they are the features of the state
 pub all_made : (words : Lcg) (place : ℕ) (made : List Feature) (left : Lcg) → place ≡ 1000 → Makes words place made left
     → (made ≡ features_from 0 1000 words) × (left ≡ behind 1000 words)
 all_made words place made left end makes =

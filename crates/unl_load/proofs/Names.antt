@@ -16,7 +16,7 @@ rise_up_to : ℕ → Bool
 rise_up_to zero = true
 rise_up_to (suc n) = is_lt (order n (n + 1)) && rise_up_to n
 
--- decided by computation
+-- checked by comparing all names
 all_rise : rise_up_to 999 ≡ true
 unfolding name_of rise_up_to
 all_rise = refl

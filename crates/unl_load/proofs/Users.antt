@@ -32,7 +32,7 @@ user_read user few =
 one_reading : (reading : Reading Fields) (context other : Fields) → reading ≡ Ok context → reading ≡ Ok other → context ≡ other
 one_reading reading context other reads also = cc
 
--- the context that is read is that of the user
+-- the context that is read is the context of this user
 pub same_context : (user : ℕ) (value : Data) (text number : List ℕ) (context : Fields) → user < 2 ^ 32
     → value ≡ object (member (codes "userId") (string text) no_members) → text ≡ number → number ≡ decimal user
     → json_context value ≡ Ok context → context ≡ user_context user

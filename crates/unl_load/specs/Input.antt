@@ -1,5 +1,5 @@
--- The input of a load (chosen by this project): 1,000 features, made from one word each, and then `count` asks, made from two
--- words each.
+-- The input of a load (chosen by this project): 1,000 features, generated from one random word each, and then `count` asks
+-- (evaluations), generated from two random words each.
 use Rattle.std.specs.Prelude.{ℕ, zero, suc, ◌+◌, ◌/◌, ◌%◌, List, [], ◌∷◌, ◌++◌, codes, decimal, Bool, true, false, Some, None}
 use Rattle.std.specs.Option.{option_map_or}
 use Rattle.rand_pcg.specs.Lcg.{Lcg}
@@ -22,7 +22,7 @@ digit number = 48 + number % 10
 unfoldable pub name_of : ℕ → List ℕ
 name_of place = codes "f" ++ digit (place / 1000) ∷ digit (place / 100) ∷ digit (place / 10) ∷ digit place ∷ []
 
--- a parameter
+-- a strategy parameter with this key and value
 abbrev pub pair : List ℕ → List ℕ → Pair
 pair key value = record { key = key; value = value }
 
@@ -36,7 +36,7 @@ generated_strategy name rollout = record {
   variants = [];
 }
 
--- the feature with this index, by its word
+-- the feature with this index, generated from this random word: its rollout percentage is `word % 101`
 unfoldable pub generated_feature : ℕ → ℕ → Feature
 generated_feature place word = record {
   name = name_of place;
@@ -51,27 +51,27 @@ generated_feature place word = record {
   dependencies = [];
 }
 
--- `n` features, the first of which has this index, by the words to come
+-- `n` features, generated from the next `n` words; the first has the index `place`
 unfoldable pub features_from : ℕ → ℕ → Lcg → List Feature
 features_from place zero words = []
 features_from place (suc n) words = generated_feature place (next_word words) ∷ features_from (place + 1) n (next words)
 
--- the state of 1,000 features
+-- the state of 1,000 features, generated from the next 1,000 words
 abbrev pub state_by : Lcg → State
 state_by words = record { features = features_from 0 1000 words; segments = [] }
 
 -- ---- the asks
 
--- what an ask evaluates: the index of a feature, and the number of a user
+-- an ask: the index of the feature to evaluate, and the number of the user to evaluate it for
 pub record LoadAsk : Type 0 where
   pub feature : ℕ
   pub user : ℕ
 
--- the ask made from the next two words
+-- the ask that is generated from the next two words
 abbrev pub ask_by : Lcg → LoadAsk
 ask_by words = record { feature = next_word words % 1000; user = next_word (next words) }
 
--- `n` asks, by the words to come
+-- `n` asks, generated from the next words, two for each
 unfoldable pub asks : ℕ → Lcg → List LoadAsk
 asks zero words = []
 asks (suc n) words = ask_by words ∷ asks n (next (next words))
@@ -90,10 +90,10 @@ is_on_for state ask = option_map_or (λ e. e.on) (evaluation_of state (name_of a
 
 -- ---- both, from a seed
 
--- the features of a seed
+-- the state with the features that are generated from a seed
 abbrev pub generated_state : ℕ → State
 generated_state seed = state_by (generator seed)
 
--- the asks of a seed; their words follow those of the features
+-- the asks that are generated from a seed; their words follow the 1,000 words of the features
 abbrev pub asks_of : ℕ → ℕ → List LoadAsk
 asks_of seed count = asks count (behind 1000 (generator seed))

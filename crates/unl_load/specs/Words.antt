@@ -3,7 +3,7 @@ use Rattle.std.specs.Prelude.{ℕ, zero, suc}
 use Rattle.rand_pcg.specs.Lcg.{Lcg, started, increment_of}
 use Rattle.rand_pcg.specs.Pcg.{multiplier_64, pcg32}
 
--- the generator of a seed, at stream 1
+-- the generator for this seed, at stream 1
 unfoldable pub generator : ℕ → Lcg
 generator seed = started 64 multiplier_64 seed (increment_of 64 1)
 

@@ -1,4 +1,4 @@
-//! The asks of a load: each evaluates one feature for one user.
+//! The asks (evaluations) of a load: each evaluates one feature for one user.
 ghost use Rattle.std.specs.Prelude.{◌≡◌, ◌≤◌, ◌<◌, ◌+◌, ◌^◌, false, codes, IfOk, if◌then◌else◌};
 ghost use Rattle.std.specs.List.{count_by};
 ghost use Rattle.std.specs.Option.{option_map_or};
@@ -18,7 +18,8 @@ use unl_documents::Memory;
 use unl_strategies::Moment;
 use unl_tokens::Projects;
 
-/// Takes two words for each of `count` asks, and returns how many of the asks find their feature on.
+/// Makes `count` asks. Takes two random words for each: for its feature and its user. Returns how many find their
+/// feature on.
 pub(crate) fn count_on(
     alloc: Global,
     snapshot: &Snapshot,
@@ -61,7 +62,7 @@ fn is_on_for(alloc: Global, snapshot: &Snapshot, feature: u32, user: u32) -> Res
     Ok(found_on(&found))
 }
 
-/// Returns whether there is an evaluation that is on.
+/// Returns whether the feature was found and is on.
 fn found_on(found: &Option<Evaluation>) -> bool
     ensures { result ≡ option_map_or (λ e. e.on) found.now false }
 {

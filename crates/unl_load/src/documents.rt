@@ -1,4 +1,4 @@
-//! The features of a load, and their version.
+//! Generates the features of a load, and builds the snapshot that is evaluated.
 ghost use Rattle.std.specs.Prelude.{◌≡◌, ◌∷◌, [], None, IfOk, OnOk, decimal, string_bytes};
 ghost use Rattle.unl_delta.specs.Valid.{IsValidBatch};
 ghost use Rattle.unl_delta.specs.declared.event.Event.TheVariants.{Hydration};
@@ -16,7 +16,7 @@ use unl_documents::{ChunkedList, Feature, List, Memory, Pair, Shared, State, Str
 /// The number of features.
 pub(crate) const FEATURES: u32 = 1000;
 
-/// Generates the state, with one word for each feature.
+/// Generates the state of all features. Takes one random word for each feature.
 pub(crate) fn state(alloc: Global, words: &mut Lcg64Xsh32) -> Result<State, Memory>
     ensures made { IfOk result (λ state. state ≡ state_by words.old) }
     ensures valid { IfOk result IsValidState }
@@ -29,7 +29,7 @@ pub(crate) fn state(alloc: Global, words: &mut Lcg64Xsh32) -> Result<State, Memo
     })
 }
 
-/// Generates the features, with one word for each.
+/// Generates the features. Takes one random word for each.
 fn features(alloc: Global, words: &mut Lcg64Xsh32) -> Result<List<Shared<Feature>>, Memory>
     ensures made { IfOk result (λ features. features ≡ features_from 0 1000 words.old) }
     ensures taken { OnOk result (words.new ≡ behind 1000 words.old) }
@@ -83,7 +83,7 @@ fn strategy(alloc: Global, name: &str, rollout: u32) -> Result<Strategy, Memory>
     })
 }
 
-/// Returns a parameter.
+/// Returns a strategy parameter with this key and value.
 fn pair(alloc: Global, key: &str, value: &str) -> Result<Pair, Memory>
     ensures { IfOk result (λ made. made ≡ pair key.now value.now) }
 {
@@ -118,7 +118,7 @@ fn name_of(alloc: Global, place: u32) -> Result<String, AllocError>
     format!(in alloc; "f{thousands}{hundreds}{tens}{ones}")
 }
 
-/// Returns the snapshot of a state that is installed as one hydration with number 1.
+/// Applies a hydration (a whole state) with number 1 to an empty place, and returns the snapshot of the new version.
 pub(crate) fn installed(alloc: Global, state: State) -> Result<Snapshot, Memory>
     requires { IsValidState state }
     ensures { IfOk result (λ snapshot. snapshot.state ≡ state) }

@@ -7,7 +7,7 @@ use thiserror::Error;
 use unl_base::Failed;
 use unl_documents as documents;
 
-/// Why a load ended before its line was written.
+/// Why a load ended before its line was written in full.
 #[derive(Clone, Copy, Debug, PartialEq, Eq, Error)]
 pub enum LoadFault {
     /// The sink failed and incremented its fault count.

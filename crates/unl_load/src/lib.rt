@@ -1,4 +1,5 @@
-//! The load: generates a large input from a seed, evaluates it many times, and writes one line with the counts.
+//! The command `load`: generates 1,000 features from a seed, evaluates them many times for random users, and writes one
+//! line with the counts.
 #![tactic(auto)]
 
 mod asking;

@@ -1,4 +1,4 @@
-//! The load, from its seed to its line.
+//! Runs a load: from a seed to the line with its counts.
 ghost use Rattle.std.specs.Prelude.{◌≡◌, ◌≤◌, IfOk, IsErrOf, OnOk, string_bytes};
 ghost use Rattle.unl_base.specs.Faults.{Rose};
 ghost use Rattle.unl_base.specs.Streams.{Sends, SendsPrefix};
@@ -12,12 +12,13 @@ use std::alloc::{AllocError, Global};
 use unl_base::{Sink, write_all};
 use unl_documents::Memory;
 
-/// Generates a large input from a seed, evaluates it `count` times, and writes one line: the number of features, the number of
-/// asks, and how many of them found their feature on and how many off. The program allows a count of 1 to 1,000,000.
+/// Generates 1,000 features from a seed, makes `count` asks, each of which evaluates one feature for one user, and
+/// writes one line: the number of features, the number of asks, and how many asks found their feature on and how many
+/// off. The command line allows a count of 1 to 1,000,000.
 ///
-/// The seed starts a generator of words. The first 1,000 words make one feature each; the features are installed as one
-/// hydration. Each ask then takes two words: for a feature and a user. It is evaluated at time 0 with random word 0. The same
-/// seed and count always give the same line.
+/// The seed starts a random number generator. Its first 1,000 words make one feature each. Each ask then takes two
+/// words: for its feature and its user. It is evaluated at time 0 with random word 0. The same seed and count always
+/// give the same line.
 ///
 /// # Errors
 /// `WriteFault` if the sink fails: a prefix of the line was written. `Memory` if out of memory: nothing was written.

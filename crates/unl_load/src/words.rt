@@ -5,7 +5,7 @@ ghost use Rattle.unl_load.specs.Words.{next_word, generator, next};
 use rand_pcg::Lcg64Xsh32;
 use rand_pcg::rand_core::utils::NextWord;
 
-/// Returns the generator of a seed.
+/// Returns the generator for this seed, at stream 1. It is PCG XSH RR 64/32 (O'Neill).
 #[tactic(auto, unfolding(crate::specs::Words::generator))]
 pub(crate) fn generator(seed: u64) -> Lcg64Xsh32
     ensures { result ≡ generator seed }
