@@ -1,4 +1,4 @@
--- Dropping the first keys of an environment.
+-- The code of `acknowledged` removes a range of rows. This is `acknowledge`, and the result is a valid book.
 use Rattle.std.proofs.Common.{◌≡◌, ℕ, zero, suc, ◌+◌, ◌≤◌, min, Bool, true, false, cond, not, ◌&&◌, T, List, [], ◌∷◌, length, drop, refl, sym, subst, ap, ◌∙◌, nat_cmp, nat_lt, arith}
 use Rattle.std.proofs.lemmas.Bool.Decides.{nat_tests}
 use Rattle.std.proofs.lemmas.Cmp.{nat_list_cmp_total}
@@ -47,7 +47,7 @@ run_none p xs e = place_none (λ x. not (p x)) xs e ∙ not_not p xs
 
 -- ---- the keys of an environment are contiguous
 
--- An order that is not `Greater`.
+-- The ordering is `Less` or `Equal`.
 abbrev pub is_le : Ordering → Bool
 is_le Less = true
 is_le Equal = true
@@ -58,7 +58,7 @@ le_first Less s e = refl
 le_first Equal s e = refl
 le_first Greater s e = absurd (subst (λ o. T (is_lt o)) (sym e) tt)
 
--- A key that comes before another has no later environment.
+-- If a key comes before another key, its environment doesn't come after that of the other key.
 environment_le : (j k : MetricKey) → key_cmp j k ≡ Less → is_le (slice_cmp nat_cmp j.environment k.environment) ≡ true
 environment_le j k e = le_first (slice_cmp nat_cmp j.environment k.environment) _ e
 
@@ -67,7 +67,7 @@ both_le Less a b = absurd (subst T (sym b) tt)
 both_le Equal a b = refl
 both_le Greater a b = absurd (subst T (sym a) tt)
 
--- Between two keys of an environment there are none of others.
+-- A key between two keys of an environment is of the same environment.
 between_is_of : (environment : List ℕ) (i j k : MetricKey) → is_of environment i ≡ true → is_of environment k ≡ true → key_cmp i j ≡ Less → key_cmp j k ≡ Less → is_of environment j ≡ true
 between_is_of environment i j k at_i at_k low high =
     let o = nat_list_cmp_total in
@@ -85,7 +85,8 @@ between_is_of environment i j k at_i at_k low high =
 
 -- ---- what is dropped
 
--- After a key of the environment and then one of another, there are no more of the environment.
+-- After a key of the environment and then a key of another environment, no key of the environment follows, so `acknowledge`
+-- drops nothing more.
 kept : (environment : List ℕ) (e f : MetricKey × Tally) (es : Book) (count : ℕ) → is_of environment e.0 ≡ true → is_of environment f.0 ≡ false → key_cmp e.0 f.0 ≡ Less → T (below_all key_cmp f.0 es) → acknowledge environment count es ≡ es
 unfolding acknowledge
 kept environment e f es zero here other low above = refl
@@ -98,7 +99,7 @@ kept environment e f (g ∷ es) (suc count) here other low above =
       | false ↦ λ at. ap (λ (b : Book). g ∷ b) rest
     ] refl
 
--- After a key of the environment.
+-- After a key of the environment, `acknowledge` drops keys from the following run of keys of the same environment.
 run_goes : (environment : List ℕ) (e : MetricKey × Tally) (es : Book) (count : ℕ) → is_of environment e.0 ≡ true → T (below_all key_cmp e.0 es) → T (is_sorted key_cmp es) → drop (min (prefix_len (λ f. is_of environment f.0) es) count) es ≡ acknowledge environment count es
 unfolding acknowledge
 run_goes environment e es zero here above sorted = let none : min (prefix_len (λ f. is_of environment f.0) es) 0 ≡ 0 = grind arith in rw none refl
@@ -117,7 +118,7 @@ run_goes environment e (f ∷ es) (suc count) here above sorted =
 abbrev pub start_of : List ℕ → Book → ℕ
 start_of environment book = prefix_len (λ e. not (is_of environment e.0)) book
 
--- How many keys of the environment follow from there.
+-- The number of keys of the environment that follow without a gap from that position.
 abbrev pub run_at : List ℕ → Book → ℕ
 run_at environment book = prefix_len (λ e. is_of environment e.0) (drop (start_of environment book) book)
 

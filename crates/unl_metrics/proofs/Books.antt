@@ -1,4 +1,4 @@
--- Books stay in order.
+-- A book stays in order when entries are added.
 use Rattle.std.proofs.Common.{◌≡◌, ℕ, true, false, cond, T, List, [], ◌∷◌, map, fold, refl, sym, subst, nat_cmp}
 use Rattle.std.proofs.lemmas.List.Elements.{All-cons, All-head, All-tail, All-nil}
 use Rattle.std.specs.Cmp.Lexicographic.{slice_cmp}
@@ -17,7 +17,7 @@ use Rattle.unl_metrics.proofs.Entries.{both_of}
 use Rattle.unl_metrics.proofs.Order.{keys_total}
 use Rattle.unl_metrics.proofs.Variants.{stays_sorted}
 
--- A row with the key of one and the sum of both tallies.
+-- `Row::plus` has the key of the first row and the sum of both tallies.
 pub plus_is : (environment other_environment copied : List ℕ) (old other new : MetricEntry) (this that : MetricKey × Tally) → copied ≡ environment → ((e : List ℕ) → key_of e new ≡ key_of e old) → tally_of new ≡ tally_sum (tally_of old) (tally_of other)
     → counted environment old ≡ this → counted other_environment other ≡ that → counted copied new ≡ (this.0, tally_sum this.1 that.1)
 plus_is environment other_environment copied old other new this that same key tally is was =
@@ -57,7 +57,7 @@ stays_in_order book e order this = record {
   each = each_put e.0 (added tally_sum (find key_cmp e.0 book) e.1) book order.each (record { hour = this.hour; variants = added_in_order (find key_cmp e.0 book) e.1 (found_in_order e.0 book order.each) this.variants });
 }
 
--- The empty book.
+-- The empty book is valid.
 pub no_keys : IsMetricsBook []
 unfolding fits
 no_keys = record { order = record { rising = tt; each = All-nil IsCounted }; fit = refl }

@@ -62,7 +62,7 @@ month_steps year (suc months) start days month rest one low high is within =
           rw stays (λ i. (same i, all i))
     ]
 
--- The text of a date.
+-- The text of a date has its year, month and day.
 pub date_is : (d : Date) (year days : ℕ) → d.year ≡ pos year → days < 2932897 → epoch_day d ≡ pos days → date_text days ≡ four_digits year ++ 45 ∷ two_digits d.month ++ 45 ∷ two_digits d.day
 unfolding date_text
 date_is d year days named most is =

@@ -43,7 +43,7 @@ is_less Greater e = absurd (subst T (sym e) tt)
 
 -- ---- the first key that doesn't come before
 
--- If x is below all entries, each of their keys comes after x.
+-- If `below_all` holds for a key x and a list, the key at each index of the list comes after x.
 below_at : {K X : Type 0} (R : K → K → Ordering) (x : K) (es : List (K × X)) → T (below_all R x es) → (j : ℕ) (d : K × X) → j < length es → R x (get_or es j d).0 ≡ Less
 below_at R x [] h j d lt = absurd (omega arith)
 below_at R x (e ∷ es) h zero d lt = less _ (first_of _ _ h)
@@ -65,7 +65,7 @@ prefix_is p (x ∷ xs) (suc i) le h =
 
 -- ---- insertion at a key
 
--- Whether the key is at the position where it would be inserted.
+-- The entry at the position where the key would be inserted has this key.
 abbrev pub is_present : {K X : Type 0} → (K → K → Ordering) → K → List (K × X) → Bool
 is_present R k es = option_map_or (λ e. is_eq (R e.0 k)) (slice_get es (place R k es)) false
 

@@ -1,4 +1,4 @@
--- What an acknowledgement leaves of a book.
+-- An acknowledgement drops the first keys of its environment, and leaves the keys of other environments.
 use Rattle.std.proofs.Common.{◌≡◌, ℕ, zero, suc, Bool, true, false, cond, List, [], ◌∷◌, drop, refl, sym, ap, ◌∙◌}
 use Rattle.std.specs.Cmp.Lexicographic.{bytes_decides}
 use Rattle.std.specs.Prelude.{◌≢◌}

@@ -1,4 +1,4 @@
--- The hour of an instant that was read can be read again.
+-- The hour of an instant that was read from a text is at most `last_hour`, so the text of the hour can be read again.
 use Rattle.std.proofs.Common.{◌≡◌, ℕ, ◌≤◌, ◌/◌, ◌||◌, Bool, true, false, cond, List, Option, Some, None, Result, Ok, Err, refl, sym, subst, ap, T, nat_lt, arith, ℤ, pos, negsuc, neg_ℤ, ◌-ℤ◌, ◌≤ℤ◌}
 use Rattle.std.proofs.lemmas.Int.{ints}
 use Rattle.std.specs.Prelude.{IfSome, option_and_then, int_lt, is_ok, is_some, unwrap_or}

@@ -13,7 +13,7 @@ use Rattle.unl_metrics.specs.Bulk.{counted_data, bulk_of_items, bulk_length, gre
 
 -- ---- what one more item adds
 
--- How many separator bytes come before an item.
+-- The number of separator bytes before an item: 1, or 0 for the first item.
 abbrev pub comma_len : Bool → ℕ
 comma_len later = cond later 1 0
 
@@ -100,7 +100,7 @@ longer_is rows i n before comma values e lt is so_far text all mark =
     let comma_is_same : comma ≡ cond (nat_eq (length (take i rows)) 0) 0 1 = rw (len, ← all) mark in
     rw prefix (rw (so_far, text, comma_is_same) (sym (one_more (take i rows) e)))
 
--- Two lists with the same images have the same length.
+-- If a list has the same images as the first i items of another list, its length is at most that of the other list.
 pub within : {A B C : Type 0} (f : A → C) (g : B → C) (xs : List A) (ys : List B) (i n : ℕ) → map f xs ≡ map g (take i ys) → length xs ≡ n → n ≤ length ys
 within f g xs ys i n same all =
     let len : length xs ≡ length (take i ys) = sym (length-map xs f) ∙ ap length same ∙ length-map (take i ys) g in

@@ -1,4 +1,4 @@
--- Iterating over the members of a JSON object.
+-- The loops that read each member of a JSON object compute `each_member`.
 use Rattle.std.proofs.Common.{◌≡◌, ℕ, List, [], ◌∷◌, ◌++◌, map, Ok, Err, String, Global, string_bytes, refl, sym, ap, subst, ◌∙◌, append_assoc, nat_cmp, Less, arith}
 use Rattle.std.proofs.lemmas.List.{append-nil, map_push}
 use Rattle.std.proofs.lemmas.List.Elements.{All-nil}
@@ -20,7 +20,7 @@ use Rattle.unl_metrics.specs.declared.report.Report.{Report}
 use Rattle.unl_metrics.specs.Readable.{HasValidName, AreVariants, AreReadable}
 use Rattle.unl_metrics.specs.Reports.{each_member, IsReport}
 
--- The items already read, and the reading of the rest.
+-- The items already read, followed by the items of a reading, or the fault of the reading.
 abbrev pub with_prefix : {T : Type 0} → List T → Reading (List T) → Reading (List T)
 with_prefix prefix reading = reading >>= λ others. Ok (prefix ++ others)
 

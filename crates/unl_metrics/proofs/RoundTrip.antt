@@ -1,4 +1,4 @@
--- What is sent from a book can be read back.
+-- A bulk report that is sent from a book is read back as the entries of its keys.
 use Rattle.std.proofs.Common.{◌≡◌, ℕ, suc, ◌*◌, ◌/◌, ◌≤◌, true, false, eqb, ltb, List, [], ◌∷◌, ◌++◌, length, map, append_assoc, nat_cmp, nat_lt, Less, Greater, Ok, refl, sym, ap, subst, ◌∙◌, arith}
 use Rattle.std.proofs.lemmas.Bool.{le-ltb}
 use Rattle.std.proofs.lemmas.Bool.Decides.{nat_tests}
@@ -42,7 +42,7 @@ below_all : (first : List ℕ) (done : List VariantCount) (v : VariantCount) (mo
 below_all first [] v more h = h.0
 below_all first (w ∷ done) v more h = below_all first done v more h.1
 
--- A name above all before it is put last.
+-- A name that is greater than all names of an object is put last.
 put_last : (done : List VariantCount) (v : VariantCount) (more : List VariantCount) → AreRising (variant_names (done ++ v ∷ more)) → put v.name (count v.count) (in_order done) ≡ in_order (done ++ v ∷ [])
 unfolding IsStrictlySortedBy in_order
 put_last [] v more h = refl

@@ -1,4 +1,4 @@
--- What was read can be sent again, and so can any sums of it.
+-- Entries that were read can be sent, and so can sums of books that can be sent.
 use Rattle.std.proofs.Common.{◌≡◌, ℕ, zero, suc, ◌≤◌, true, false, cond, T, List, [], ◌∷◌, map, fold, take, length, nat_cmp, refl, sym, subst, ap, ◌∙◌, arith}
 use Rattle.std.proofs.lemmas.Bool.Decides.{nat_tests}
 use Rattle.std.proofs.lemmas.List.{length-map, length-take, take-map}
@@ -25,13 +25,14 @@ use Rattle.unl_metrics.proofs.Entries.{each_true, first_of, second_of, less}
 use Rattle.unl_metrics.proofs.RoundTrip.{text_back}
 use Rattle.unl_metrics.proofs.Sending.{entries_again}
 
--- A name within its limits.
+-- The variant's name is within the limits of names.
 abbrev IsCalled : List ℕ × ℕ → Type 0
 IsCalled v = IsName v.0
 
 -- ---- finite maps
 
--- What holds of all entries, and of a new one whatever its value, holds after the new one is put in.
+-- If a property holds for all entries and for a new entry, and an entry keeps it with the new value, then it holds for all
+-- entries after the new one is put in.
 all_put : {K X : Type 0} (R : K → K → Ordering) (P : K × X → Type 0) (k : K) (x : X) (es : List (K × X)) → All P es → P (k, x) → ((e : K × X) → P e → P (e.0, x)) → All P (put R k x es)
 all_put R P k x [] each this moved = All-cons P (k, x) [] this each
 all_put R P k x (e ∷ es) each this moved = elim (R k e.0) as (λ r. All P (by_order r ((k, x) ∷ e ∷ es) ((e.0, x) ∷ es) (e ∷ put R k x es))) [

@@ -23,7 +23,7 @@ pub record MetricKey : Type 0 where
   pub feature : List ℕ
   pub hour : ℕ
 
--- The key as texts. The hour is a text of one number.
+-- The key as a list of lists of numbers, in the order in which keys are compared. The hour is a list of one number.
 abbrev pub key_parts : MetricKey → List (List ℕ)
 key_parts k = k.environment ∷ k.app ∷ k.feature ∷ (k.hour ∷ []) ∷ []
 
@@ -31,7 +31,7 @@ key_parts k = k.environment ∷ k.app ∷ k.feature ∷ (k.hour ∷ []) ∷ []
 abbrev pub key_cmp : MetricKey → MetricKey → Ordering
 key_cmp = on key_parts (slice_cmp (slice_cmp nat_cmp))
 
--- How many times each variant was given: a finite map from names, in byte order.
+-- How many times each variant was given: a finite map from names to counts, in byte order of names.
 abbrev pub Variants : Type 0
 Variants = List (List ℕ × ℕ)
 
@@ -51,12 +51,12 @@ Book = List (MetricKey × Tally)
 abbrev pub sum : ℕ → ℕ → ℕ
 sum a b = min (a + b) (2 ^ 64 - 1)
 
--- A value added to the one before, if there is one.
+-- The sum of an earlier value and a value, or the value itself if there is no earlier one.
 abbrev pub added : {X : Type 0} → (X → X → X) → Option X → X → X
 added plus None x = x
 added plus (Some before) x = plus before x
 
--- A finite map after a value is added at a key.
+-- A finite map after a value is added to the value at a key, or inserted if the map doesn't have the key.
 abbrev pub with_entry : {K X : Type 0} → (K → K → Ordering) → (X → X → X) → List (K × X) → K × X → List (K × X)
 with_entry order plus entries (k, x) = put order k (added plus (find order k entries) x) entries
 
@@ -72,7 +72,7 @@ tally_sum s t = record { yes = sum s.yes t.yes; no = sum s.no t.no; variants = f
 abbrev pub with_tally : Book → MetricKey × Tally → Book
 with_tally = with_entry key_cmp tally_sum
 
--- A book after others are added, entry by entry.
+-- A book after the entries of another book are added, one by one.
 unfoldable pub sum_of : Book → Book → Book
 sum_of book others = fold with_tally book others
 
@@ -110,16 +110,16 @@ count_at = find (slice_cmp nat_cmp)
 abbrev pub tallies_at : MetricKey → Book → List Tally
 tallies_at key others = map (λ e. e.1) (where_key key_cmp (eq_by_cmp key_cmp key) others)
 
--- An optional value after one more is added.
+-- The sum of an optional value and a value.
 abbrev pub and_more : {X : Type 0} → (X → X → X) → Option X → X → Option X
 and_more plus before x = Some (added plus before x)
 
--- The sum of two optional values: the one, if the other is missing.
+-- The sum of two optional values. If one of them is missing, it is the other one.
 abbrev pub sum_of_both : {X : Type 0} → (X → X → X) → Option X → Option X → Option X
 sum_of_both plus before None = before
 sum_of_both plus before (Some x) = and_more plus before x
 
--- How many keys at the start of the list come before a key.
+-- The number of keys at the start of the list that come before a key.
 abbrev pub place : {K X : Type 0} → (K → K → Ordering) → K → List (K × X) → ℕ
 place order k entries = prefix_len (λ e. is_lt (order e.0 k)) entries
 
@@ -137,17 +137,17 @@ fits book = nat_le (length book) 10000 && list_all has_few_variants book
 abbrev pub if_fits : Book → Result Book AddRefusal
 if_fits book = if fits book then Ok book else Err Full
 
--- An hour in the years 1970 to 9999, and variants in byte order, each name once.
+-- A valid entry: its hour is in the years 1970 to 9999, and its variants are in byte order of names, each name once.
 pub record IsCounted (entry : MetricKey × Tally) : Type 0 where
   pub hour : entry.0.hour < hours_of_years
   pub variants : T (is_sorted (slice_cmp nat_cmp) entry.1.variants)
 
--- The keys are in ascending order, each once.
+-- The keys are in ascending order, each once, and each entry is valid.
 pub record HasOrderedKeys (book : Book) : Type 0 where
   pub rising : T (is_sorted key_cmp book)
   pub each : All IsCounted book
 
--- A book: the keys in ascending order, each once, within the limits.
+-- A valid book: the keys are in ascending order, each once, each entry is valid, and the limits are met.
 pub record IsMetricsBook (book : Book) : Type 0 where
   pub order : HasOrderedKeys book
   pub fit : fits book ≡ true

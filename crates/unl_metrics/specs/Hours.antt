@@ -1,4 +1,4 @@
--- Whole hours since 1970, and their text.
+-- The hour of an instant, in whole hours since 1970, and the text of an hour.
 use Rattle.std.specs.Prelude.{ℕ, zero, suc, ◌+◌, ◌-◌, ◌/◌, ◌%◌, List, ◌∷◌, [], ◌++◌, codes, nat_lt, if◌then◌else◌, ℤ, pos, negsuc, Option}
 use Rattle.std.specs.Prelude.{Some, None}
 use Rattle.jiff.specs.Words.{days_in_year, days_in_month}
@@ -11,22 +11,22 @@ hours_of_years = 70389528
 abbrev pub if_of_years : ℕ → Option ℕ
 if_of_years hour = if nat_lt hour hours_of_years then Some hour else None
 
--- The whole hours from 1970 to an instant, if it is in the years 1970 to 9999. The instant is in nanoseconds.
+-- The hour of an instant, which is given in nanoseconds since 1970. `None` if it is not in the years 1970 to 9999.
 unfoldable pub hour_of : ℤ → Option ℕ
 hour_of (pos nanoseconds) = if_of_years (nanoseconds / 3600000000000)
 hour_of (negsuc n) = None
 
 -- ---- the text of an hour
 
--- The year, and the days passed in it, `days` days after the start of `year`. The first argument bounds how many years
--- are passed.
+-- The year and the days since its start, for the day that is `days` days after the start of `year`. The first argument bounds
+-- the recursion: the number of years that may be skipped.
 unfoldable pub year_and_days : ℕ → ℕ → ℕ → ℕ × ℕ
 year_and_days zero year days = (year, days)
 year_and_days (suc years) year days =
     if nat_lt days (days_in_year (pos year)) then (year, days) else year_and_days years (year + 1) (days - days_in_year (pos year))
 
--- The month of a year, and the days passed in it, `days` days after the start of `month`. The second argument bounds how
--- many months are passed.
+-- The month and the days since its start, for the day that is `days` days after the start of `month`. The second argument
+-- bounds the recursion: the number of months that may be skipped.
 unfoldable pub month_and_days : ℕ → ℕ → ℕ → ℕ → ℕ × ℕ
 month_and_days year zero month days = (month, days)
 month_and_days year (suc months) month days =
@@ -41,11 +41,11 @@ two_digits n = (48 + n / 10) ∷ (48 + n % 10) ∷ []
 abbrev pub four_digits : ℕ → List ℕ
 four_digits n = two_digits (n / 100) ++ two_digits (n % 100)
 
--- `MM-DD`, from the month and the days passed in it.
+-- `MM-DD`, from the month and the days since its start.
 abbrev pub month_text : ℕ × ℕ → List ℕ
 month_text (month, days) = two_digits month ++ 45 ∷ two_digits (days + 1)
 
--- `YYYY-MM-DD`, from the year and the days passed in it.
+-- `YYYY-MM-DD`, from the year and the days since its start.
 abbrev pub year_text : ℕ × ℕ → List ℕ
 year_text (year, days) = four_digits year ++ 45 ∷ month_text (month_and_days year 12 1 days)
 

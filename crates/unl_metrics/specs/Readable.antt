@@ -1,4 +1,4 @@
--- Which reports are read back as they were, when they are sent as a bulk report.
+-- The conditions under which entries that are sent in a bulk report are read back unchanged.
 use Rattle.std.specs.Prelude.{◌≡◌, ℕ, ◌≤◌, List, map, All, Some, Ok}
 use Rattle.serde_json.specs.Data.{Data}
 use Rattle.unl_documents.specs.Limits.{IsName, IsListOf}
@@ -9,7 +9,7 @@ use Rattle.unl_metrics.specs.declared.report.VariantCount.{VariantCount}
 use Rattle.unl_metrics.specs.Book.{Book, MetricKey, Tally}
 use Rattle.unl_metrics.specs.Reports.{bulk_report_of}
 
--- The latest hour that can be read from a text.
+-- The latest hour that can be read from a text: that of 9999-12-30T22:00:00Z, where the timestamps of `jiff` end.
 abbrev pub last_hour : ℕ
 last_hour = 70389502
 
@@ -29,11 +29,11 @@ pub record IsReadable (e : MetricEntry) : Type 0 where
   pub hour : e.hour ≤ last_hour
   pub variants : AreVariants e.variants
 
--- At most 10,000 such entries.
+-- At most 10,000 entries, each of which is readable.
 abbrev pub AreReadable : List MetricEntry → Type 0
 AreReadable entries = IsListOf 10000 IsReadable entries
 
--- A variant's name and count as a report has them.
+-- A variant's name and count as a `VariantCount`.
 abbrev pub named : List ℕ × ℕ → VariantCount
 named v = record { name = v.0; count = v.1 }
 
@@ -46,7 +46,7 @@ entry_at (key, tally) =
 abbrev pub entries_at : Book → List MetricEntry
 entries_at book = map entry_at book
 
--- A key and its tally that can be sent: names within their limits, and an hour that can be read.
+-- A key and its tally that can be sent and read back: names within their limits, and an hour that can be read.
 pub record IsSendable (e : MetricKey × Tally) : Type 0 where
   pub app : IsName e.0.app
   pub feature : IsName e.0.feature

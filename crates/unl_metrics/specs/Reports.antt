@@ -1,4 +1,4 @@
--- How reports are read: their keys in order, each with its kind.
+-- How reports are read from JSON: which keys, in which order, and which kind of value each key has.
 use Rattle.std.specs.Prelude.{ℕ, ◌<◌, List, [], ◌∷◌, map, All, option_and_then, Result, Ok, Err, ok_or, nat_lt, if◌then◌else◌}
 use Rattle.serde_json.specs.Data.{Data, Members, no_members, member}
 use Rattle.serde_json.specs.Find.{as_object}
@@ -21,24 +21,26 @@ use Rattle.unl_metrics.specs.Hours.{hour_of, hours_of_years}
 
 -- ---- valid reports
 
--- An hour in the years 1970 to 9999, and variants in byte order, each name once.
+-- A valid entry: its hour (a number of whole hours since 1970) is in the years 1970 to 9999, and its variants are in byte order of
+-- names, each name once.
 pub record IsEntry (e : MetricEntry) : Type 0 where
   pub hour : e.hour < hours_of_years
   pub variants : AreRising (map (λ v. v.name) e.variants)
 
--- Each entry is valid.
+-- A valid report: each entry is valid.
 abbrev pub IsReport : Report → Type 0
 IsReport report = All IsEntry report.entries
 
 -- ---- kinds
 
--- The hour of an instant in the years 1970 to 9999, given as a text.
+-- The hour of an instant that is given as a text, in whole hours since 1970. `WrongKind` if the text is no instant, or the instant is
+-- not in the years 1970 to 9999.
 unfoldable pub hour : Field → Data → Reading ℕ
 hour key value = do
   text ← any_text key value
   ok_or (option_and_then hour_of (instant_of text)) (document_fault.WrongKind key)
 
--- Each member of an object, in byte order of the keys, up to the first fault.
+-- Reads each member of an object, in the order of the members, and stops at the first fault.
 unfoldable pub each_member : {T : Type 0} → (List ℕ → Data → Reading T) → Members → Reading (List T)
 each_member kind no_members = Ok []
 each_member kind (member key value inside) = do
@@ -46,13 +48,13 @@ each_member kind (member key value inside) = do
   others ← each_member kind inside
   Ok (first ∷ others)
 
--- An object of at most `most` members.
+-- Reads an object of at most `most` members, each of them by `kind`.
 unfoldable pub members : {T : Type 0} → ℕ → (Field → List ℕ → Data → Reading T) → Field → Data → Reading (List T)
 members most kind key value = do
   inside ← ok_or (as_object value) (document_fault.WrongKind key)
   if nat_lt most (members_len inside) then Err (document_fault.TooLarge key (members_len inside)) else each_member (kind key) inside
 
--- A variant's count: first its name, then a whole number, which can't be null.
+-- A variant's name and its count. The name is checked first. The count is a whole number and can't be null.
 unfoldable pub variant_count : Field → List ℕ → Data → Reading VariantCount
 variant_count key name value = do
   named ← name_of key name
@@ -69,13 +71,13 @@ entry_of app feature at value = do
   variants ← defaulted [] (members 100 variant_count) field.Variants value
   Ok (record { app = app; feature = feature; hour = at; yes = ons; no = offs; variants = variants })
 
--- The counts of a toggle: first the feature's name, which is the toggle's key, then an object.
+-- The entry of a toggle. First its key is checked, which is the feature's name, and then its value, an object with counts.
 unfoldable pub toggle_of : List ℕ → ℕ → Field → List ℕ → Data → Reading MetricEntry
 toggle_of app at key feature value = do
   named ← name_of key feature
   object_of (entry_of app named at) key value
 
--- The toggles of an app's bucket.
+-- The entries of an app's bucket: its start, which gives the hour, and its toggles.
 unfoldable pub bucket_of : List ℕ → Data → Reading (List MetricEntry)
 bucket_of app value = do
   at ← required hour field.Start value
@@ -88,7 +90,7 @@ single_of value = do
   entries ← required (object_of (bucket_of app)) field.Bucket value
   Ok (record { entries = entries })
 
--- An entry of a bulk report.
+-- The entry of one item of a bulk report.
 unfoldable pub bulk_entry_of : Data → Reading MetricEntry
 bulk_entry_of value = do
   feature ← required name field.FeatureName value
@@ -96,7 +98,7 @@ bulk_entry_of value = do
   at ← required hour field.Timestamp value
   entry_of app feature at value
 
--- The report that a replica sends for its apps.
+-- The bulk report that an edge sends for its apps.
 unfoldable pub bulk_of : Data → Reading Report
 bulk_of value = do
   entries ← required (objects 10000 bulk_entry_of) field.Metrics value
@@ -108,7 +110,7 @@ bulk_of value = do
 abbrev pub ReportReading : Type 0
 ReportReading = Result Report BadReport
 
--- A document's fault as a report's. A duplicate name and a count that is no whole number are `WrongKind`.
+-- The report fault for a document fault. A duplicate name and a count that is no whole number are `WrongKind`.
 abbrev pub report_fault : BadDocument → BadReport
 report_fault document_fault.NotJson = NotJson
 report_fault (document_fault.Missing key) = Missing key
@@ -118,12 +120,12 @@ report_fault (document_fault.DuplicateName key name) = WrongKind key
 report_fault (document_fault.NotWhole key) = WrongKind key
 report_fault document_fault.Memory = Memory
 
--- The reading, with its fault as a report's.
+-- The result of reading a report, with a document fault turned into a report fault.
 abbrev pub as_report : Reading Report → ReportReading
 as_report (Ok report) = Ok report
 as_report (Err e) = Err (report_fault e)
 
--- The report read from bytes that are a JSON object.
+-- Parses the bytes as a JSON object and reads the report from it by `reads`. Bytes that are no JSON object are `NotJson`.
 abbrev pub report_in : (Data → Reading Report) → List ℕ → ReportReading
 report_in reads bytes = as_report (ok_or (object_in bytes) document_fault.NotJson >>= reads)
 
@@ -131,6 +133,6 @@ report_in reads bytes = as_report (ok_or (object_in bytes) document_fault.NotJso
 unfoldable pub single_report_of : List ℕ → ReportReading
 single_report_of bytes = report_in single_of bytes
 
--- The report that a replica sends, from its bytes.
+-- The bulk report that an edge sends, from its bytes.
 unfoldable pub bulk_report_of : List ℕ → ReportReading
 bulk_report_of bytes = report_in bulk_of bytes

@@ -20,8 +20,9 @@ use std::alloc::Global;
 use std::marker::Model;
 use unl_documents::{Memory, Shared};
 
-/// Counts by environment, app, feature and hour. It holds at most 10,000 such keys, with at most 100 variants each. In
-/// contracts it is the list of its keys in ascending order, each with its tally.
+/// Counts of feature evaluations. A key is an environment, an app, a feature and an hour. A tally has the counts at a
+/// key. The book holds at most 10,000 keys, with at most 100 variants each. In contracts it is the list of its keys in
+/// ascending order, each with its tally.
 #[derive(Drop)]
 pub struct MetricsBook {
     rows: Vec<Shared<Row>>,
@@ -61,11 +62,13 @@ impl MetricsBook {
         self.rows.is_empty()
     }
 
-    /// Adds all counts of a report, for an environment, or none of them. Sums saturate at 2^64 - 1.
+    /// Adds all counts of a report, for an environment. Sums saturate at 2^64 - 1.
     ///
     /// # Errors
-    /// `Full` exactly if the sum would have more than 10,000 keys, or more than 100 variant names at one key. `Memory` if it
-    /// runs out of memory. On an error the book is unchanged.
+    /// - `Full`: the sum would have more than 10,000 keys, or more than 100 variant names at one key.
+    /// - `Memory`: out of memory.
+    ///
+    /// On an error nothing is added: the book is unchanged.
     pub fn add(
         &mut self,
         alloc: Global,
@@ -86,8 +89,7 @@ impl MetricsBook {
         Ok(())
     }
 
-    /// Moves all counts of another book into this one, or none of them. On success the other book is empty. Sums saturate at
-    /// 2^64 - 1.
+    /// Moves all counts of another book into this one. The other book is then empty. Sums saturate at 2^64 - 1.
     ///
     /// # Errors
     /// As for [`MetricsBook::add`]. On an error both books are unchanged.
@@ -107,10 +109,14 @@ impl MetricsBook {
         Ok(())
     }
 
-    /// The bulk report of an environment, and how many keys it has. It takes as many of the environment's keys, in order from
-    /// the first, as fit into a text of at most 1,048,576 bytes. Returns `None` exactly if the environment has no key.
-    /// [`Report::read_bulk`] reads the text back as the counts of these keys, if all names and hours in the book are within
-    /// the limits of reports that were read.
+    /// The bulk report of an environment, and the number of keys in it. `None` exactly if the environment has no key.
+    ///
+    /// The report has the longest prefix of the environment's keys, in ascending order, whose text is at most 1,048,576
+    /// bytes. If all names and hours in the book are within the limits that a report is read with,
+    /// [`Report::read_bulk`] reads the text back as the counts of these keys.
+    ///
+    /// # Errors
+    /// `Memory`: out of memory.
     pub fn bulk(&self, alloc: Global, environment: &str) -> Result<Option<(Value, usize)>, Memory>
         ensures report { IfOk result (λ found. option_map (λ sent. (view sent.0, sent.1)) found ≡ bulk_of environment.now self.now) }
         ensures reads_back { All IsSendable self.now → IfOk result (λ found. IfSome found (λ sent.
@@ -120,8 +126,8 @@ impl MetricsBook {
         bulk(alloc, self.rows.as_slice(), environment)
     }
 
-    /// Drops the first `count` keys of an environment, or all of them if there are fewer. For keys whose report was received.
-    /// Doesn't allocate.
+    /// Drops the first `count` keys of an environment, or all of its keys if there are fewer. To be called when the
+    /// server has accepted a bulk report of `count` keys. Doesn't allocate.
     pub fn acknowledged(&mut self, environment: &str, count: usize)
         ensures { self.new ≡ acknowledge environment.now count self.old }
     {
@@ -143,14 +149,14 @@ fn first_of(rows: &[Shared<Row>], environment: &str) -> usize
     }
 }
 
-/// The position of the first row of an environment.
+/// The position of the first row of an environment. `None` if it has none.
 fn place_in(rows: &[Shared<Row>], environment: &str) -> Option<usize>
     ensures { result ≡ position (λ row. is_of environment.now row.0) rows.now }
 {
     rows.iter().position(|row| row.get().is_of(environment))
 }
 
-/// How many rows at the start of the slice are of an environment.
+/// The number of rows of an environment at the start of the slice.
 fn run_of(rows: &[Shared<Row>], environment: &str) -> usize
     ensures run { result ≡ prefix_len (λ row. is_of environment.now row.0) rows.now }
     ensures inside { result ≤ length rows.now }
@@ -161,7 +167,7 @@ fn run_of(rows: &[Shared<Row>], environment: &str) -> usize
     }
 }
 
-/// The position of the first row that isn't of an environment.
+/// The position of the first row of another environment. `None` if there is none.
 fn place_outside(rows: &[Shared<Row>], environment: &str) -> Option<usize>
     ensures { result ≡ position (λ row. not (is_of environment.now row.0)) rows.now }
 {

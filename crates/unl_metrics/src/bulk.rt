@@ -1,4 +1,4 @@
-//! The bulk report in which a book's counts are sent.
+//! Writes the bulk report in which the counts of an environment are sent upstream.
 ghost use Rattle.std.specs.Prelude.{◌≡◌, ◌<◌, ◌==◌, ◌^◌, false, if◌then◌else◌, IfOk, All, length, map, option_map, take};
 ghost use Rattle.serde_json.specs.View.{view, items_of};
 ghost use Rattle.serde_json.specs.Written.{has_float, compact_text};
@@ -17,7 +17,7 @@ const LONGEST: usize = 1_048_576;
 /// The length of a bulk report without rows, in bytes.
 const EMPTY: usize = 32;
 
-/// The rows of an environment.
+/// The rows of an environment. They are shared with `rows`, not copied.
 fn rows_of(
     alloc: Global,
     rows: &[Shared<Row>],
@@ -34,7 +34,7 @@ fn rows_of(
     Ok(found)
 }
 
-/// The JSON of the rows, from the first, as many as fit into one bulk report.
+/// The JSON of the longest prefix of the rows that fits into one bulk report.
 fn fitting_values(alloc: Global, rows: &[Shared<Row>]) -> Result<Vec<Value>, Memory>
     requires { All IsCounted rows.now }
     ensures values { IfOk result (λ values. map view values.items ≡ map counted_data (take (room_for rows.now) rows.now)) }
@@ -63,7 +63,7 @@ fn length_of(alloc: Global, value: &Value) -> Result<usize, Memory>
     Ok(value.to_string(alloc)?.len())
 }
 
-/// The number of separator bytes before an item, given how many items come before it.
+/// The number of separator bytes before an item, given the number of items before it.
 fn comma(before: usize) -> usize
     ensures { result ≡ (if before == 0 then 0 else 1) }
 {
@@ -82,7 +82,7 @@ fn bulk_value(alloc: Global, values: Vec<Value>) -> Result<Value, Memory>
     Ok(Value::Object(members))
 }
 
-/// The bulk report of an environment and how many keys it has, or `None` if the environment has no key.
+/// The bulk report of an environment and the number of keys in it, or `None` if the environment has no key.
 pub(crate) fn bulk(
     alloc: Global,
     rows: &[Shared<Row>],

@@ -12,17 +12,17 @@ pub enum BadReport {
     /// Not JSON, or not an object.
     #[error("the report is not JSON")]
     NotJson,
-    /// The key is required and absent, or a name at it is empty.
+    /// The key is required and is absent or null, or its value is a name and empty.
     #[error("a required key is missing")]
     Missing(Field),
-    /// The value at the key is of the wrong kind. Includes a count that is no whole number from 0 on, and a text that is no
-    /// instant in the years 1970 to 9999.
+    /// The value at the key is of the wrong kind. Includes a count that is no whole number from 0 on, and a text that
+    /// is no instant in the years 1970 to 9999.
     #[error("a value is of the wrong kind")]
     WrongKind(Field),
     /// The length or count at the key is above its limit. Carries that length or count.
     #[error("a length or a number is too large: {1}")]
     TooLarge(Field, u64),
-    /// It ran out of memory.
+    /// Out of memory.
     #[error("out of memory")]
     Memory,
 }

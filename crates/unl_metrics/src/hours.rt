@@ -1,4 +1,4 @@
-//! Whole hours since 1970, and their text.
+//! The hour of an instant, in whole hours since 1970, and the text of an hour.
 ghost use Rattle.std.specs.Prelude.{◌≡◌, ◌<◌, ◌≤◌, pos, IfOk, IfSome, option_and_then};
 ghost use Rattle.unl_constraints.specs.Instant.{instant_of};
 ghost use Rattle.jiff.specs.Words.{epoch_day};
@@ -13,7 +13,8 @@ use unl_constraints::read_instant;
 use unl_documents::kind::Kind;
 use unl_documents::{BadDocument, Field, Memory, Text};
 
-/// A document value that is the text of an instant in the years 1970 to 9999. It is read as its hour.
+/// A document value that is the text of an instant in the years 1970 to 9999. Only the hour of the instant is kept, in
+/// whole hours since 1970.
 pub(crate) struct Hour;
 
 impl Kind for Hour {
@@ -37,7 +38,8 @@ impl Kind for Hour {
     }
 }
 
-/// The hour of the instant that a text names, if that is in the years 1970 to 9999.
+/// The hour of the instant in a text. `None` if the text is no instant, or its instant is not in the years 1970 to
+/// 9999.
 fn hour_in(alloc: Global, text: &str) -> Result<Option<u32>, Memory>
     ensures hour { IfOk result (λ hour. hour ≡ option_and_then hour_of (instant_of text.now)) }
     ensures below { IfOk result (λ hour. IfSome hour (λ h. h ≤ last_hour)) }
@@ -54,7 +56,7 @@ fn hour_of_text(alloc: Global, text: &str) -> Result<Option<u32>, Memory>
     }
 }
 
-/// The whole hours from 1970 to an instant, if that is in the years 1970 to 9999. The instant is in nanoseconds.
+/// The hour of an instant, which is given in nanoseconds since 1970. `None` if it is not in the years 1970 to 9999.
 #[tactic(auto, unfolding(crate::specs::Hours::hour_of))]
 fn hour_of(instant: i128) -> Option<u32>
     ensures { result ≡ hour_of instant }

@@ -1,4 +1,5 @@
-//! Laws of metrics books, and of the bulk reports sent from them.
+//! Facts about metrics books, and about the bulk reports sent from them. Each function is empty: its contract states
+//! the fact.
 ghost use Rattle.std.specs.Prelude.{◌≡◌, ◌≢◌, ◌↔◌, ◌<◌, ◌≤◌, ℕ, List, [], None, T, All, length, map, take, drop, fold};
 ghost use Rattle.std.specs.Cmp.Lexicographic.{slice_cmp};
 ghost use Rattle.std.specs.FinMap.Entries.{is_sorted};
@@ -28,7 +29,7 @@ pub fn sums_are_sums_at_each_key()
     ensures order { (book others : Book) → HasOrderedKeys book → All IsCounted others → HasOrderedKeys (sum_of book others) }
 {}
 
-/// Acknowledging drops the first keys of the environment, and no keys of others.
+/// An acknowledgement drops the first keys of the environment, and no keys of other environments.
 pub fn acknowledged_keys_are_dropped()
     ensures these { (environment : List ℕ) (count : ℕ) (book : Book) → counted_in environment (acknowledge environment count book)
         ≡ drop count (counted_in environment book) }
@@ -36,15 +37,16 @@ pub fn acknowledged_keys_are_dropped()
         → counted_in other (acknowledge environment count book) ≡ counted_in other book }
 {}
 
-/// Nothing is sent exactly if there is no key. Otherwise the longest prefix of the keys is sent whose text fits.
+/// Nothing is sent exactly if the environment has no key. Otherwise the longest prefix of its keys is sent whose text
+/// is at most 1,048,576 bytes.
 pub fn the_longest_prefix_is_sent()
     ensures none { (environment : List ℕ) (book : Book) → (bulk environment book ≡ None) ↔ (counted_in environment book ≡ []) }
     ensures fits { (book : Book) → bulk_length (take (room_for book) book) ≤ longest_bulk }
     ensures longest { (book : Book) (n : ℕ) → room_for book < n → n ≤ length book → longest_bulk < bulk_length (take n book) }
 {}
 
-/// A book's counts in an environment can be turned into the entries of a report, and the bulk report sent for them is
-/// read as that report.
+/// The counts of an environment can be turned into report entries and back. The bulk report of entries that can be
+/// read, or of a book that can be sent, is read as these same entries. A bulk report is nested at most 4 levels deep.
 pub fn what_is_sent_is_read()
     ensures entries { (environment : List ℕ) (book : Book) → map (counted environment) (entries_at (counted_in environment book))
         ≡ counted_in environment book }
@@ -55,7 +57,8 @@ pub fn what_is_sent_is_read()
     ensures depth { (book : Book) → depth (bulk_data book) ≤ 4 }
 {}
 
-/// What was read can be sent, and so can sums of it and what an acknowledgement leaves.
+/// Entries that were read can be sent. If two books can be sent, so can their sum. If a book can be sent, so can the
+/// book after an acknowledgement.
 pub fn what_is_read_may_be_sent()
     ensures entries { (environment : List ℕ) (entries : List MetricEntry) → AreReadable entries
         → All IsSendable (map (counted environment) entries) }

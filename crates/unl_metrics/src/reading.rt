@@ -1,4 +1,4 @@
-//! Reads reports from JSON values.
+//! Reads reports of metrics from parsed JSON values.
 ghost use Rattle.std.specs.Prelude.{◌≡◌, ◌≤◌, IfOk, All, map, length};
 ghost use Rattle.serde_json.specs.Events.{members_len};
 ghost use Rattle.serde_json.specs.View.{view, members_view};
@@ -20,7 +20,7 @@ use unl_documents::keys::{defaulted, required, value_at};
 use unl_documents::kind::{AnyWhole, Kind, Name, name_of};
 use unl_documents::{BadDocument, Field, List, Text, TryClone};
 
-/// A document value with the count of each variant: an object of whole numbers.
+/// A document value with the count of each variant: an object from names to whole numbers, with at most 100 members.
 struct Variants;
 
 impl Kind for Variants {
@@ -43,6 +43,7 @@ impl Kind for Variants {
     }
 }
 
+/// The number of members of an object.
 fn count_of(members: &Map<String, Value>) -> usize
     ensures members { result ≡ members_len (members_view members.now.entries) }
     ensures len { result ≡ length members.now.entries }
@@ -50,6 +51,7 @@ fn count_of(members: &Map<String, Value>) -> usize
     members.len()
 }
 
+/// Reads each member of an object as the count of a variant, up to the first fault.
 fn each_variant(
     alloc: Global,
     field: Field,
@@ -67,6 +69,7 @@ fn each_variant(
     Ok(variants)
 }
 
+/// Reads the count of one variant. First its name is checked, then its count.
 #[tactic(auto, unfolding(crate::specs::Reports::variant_count))]
 fn variant_of(
     alloc: Global,
@@ -112,6 +115,7 @@ fn entry_of(
     })
 }
 
+/// Reads one toggle. First its key is checked, which is the feature's name, then its value, an object with counts.
 #[tactic(auto, unfolding(crate::specs::Reports::toggle_of, unl_documents::specs::Kinds::object_of))]
 fn toggle_of(
     alloc: Global,
@@ -133,6 +137,7 @@ fn toggle_of(
     entry_of(alloc, app.copy(alloc)?, feature, hour, value)
 }
 
+/// Reads each member of an object as a toggle, up to the first fault.
 fn each_toggle(
     alloc: Global,
     app: &Text,
@@ -153,7 +158,8 @@ fn each_toggle(
     Ok(entries)
 }
 
-/// Reads the toggles of an app and an hour: an object of objects.
+/// Reads the toggles of an app and an hour: an object from feature names to objects with counts, at most 10,000
+/// members.
 #[tactic(auto, unfolding(crate::specs::Reports::members))]
 fn toggles_of(
     alloc: Global,
@@ -177,6 +183,7 @@ fn toggles_of(
     each_toggle(alloc, app, hour, field, members)
 }
 
+/// Reads an app's bucket: its start, which gives the hour of all entries, and its toggles.
 #[tactic(auto, unfolding(crate::specs::Reports::bucket_of, unl_documents::specs::Kinds::defaulted))]
 fn bucket_of(alloc: Global, app: &Text, value: &Value) -> Result<List<MetricEntry>, BadDocument>
     requires { IsName app.now }
@@ -193,7 +200,7 @@ fn bucket_of(alloc: Global, app: &Text, value: &Value) -> Result<List<MetricEntr
 /// Reads the report that one app sends.
 ///
 /// # Errors
-/// The first fault, in the order of the keys.
+/// The fault of the app's name, otherwise the first fault of its bucket. `Memory`: out of memory.
 #[tactic(auto, unfolding(crate::specs::Reports::single_of))]
 pub(crate) fn read_single(alloc: Global, value: &Value) -> Result<Report, BadDocument>
     ensures gives { Gives result (single_of (view value.now)) }
@@ -204,6 +211,7 @@ pub(crate) fn read_single(alloc: Global, value: &Value) -> Result<Report, BadDoc
     Ok(Report { entries })
 }
 
+/// Reads the bucket of an app at a key, which is required.
 #[tactic(auto, unfolding(unl_documents::specs::Kinds::required, unl_documents::specs::Kinds::object_of))]
 fn entries_of(
     alloc: Global,
@@ -238,10 +246,11 @@ impl Document for MetricEntry {
     }
 }
 
-/// Reads the report that a replica sends for its apps.
+/// Reads the bulk report that an edge sends for its apps.
 ///
 /// # Errors
-/// The first fault, in the order of the keys.
+/// The fault of the list of metrics, such as more than 10,000 entries, or the first fault of an entry. `Memory`: out of
+/// memory.
 #[tactic(auto, unfolding(crate::specs::Reports::bulk_of))]
 pub(crate) fn read_bulk(alloc: Global, value: &Value) -> Result<Report, BadDocument>
     ensures gives { Gives result (bulk_of (view value.now)) }

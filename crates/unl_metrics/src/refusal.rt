@@ -1,4 +1,4 @@
-//! Why a book refuses counts.
+//! Why a metrics book refuses counts.
 ghost use Rattle.std.specs.Prelude.{◌≡◌};
 ghost use Rattle.unl_metrics.specs.declared.refusal.AddRefusal.TheVariants.{Memory as memory};
 
@@ -9,10 +9,11 @@ use unl_documents::Memory;
 /// Why nothing was added to a book.
 #[derive(Clone, Copy, Debug, PartialEq, Eq, Error)]
 pub enum AddRefusal {
-    /// The sum would have more than 10,000 keys, or more than 100 variant names at one key.
+    /// With the new counts, the book would have more than 10,000 keys, or more than 100 variant names at one key. A key
+    /// is an environment, an app, a feature and an hour.
     #[error("the book is full")]
     Full,
-    /// It ran out of memory.
+    /// Out of memory.
     #[error("out of memory")]
     Memory,
 }

@@ -1,4 +1,4 @@
-//! Reports of how many times features were on and off.
+//! Reports of metrics: how many times each feature was on and off, and how many times each variant was given.
 ghost use Rattle.std.specs.Prelude.{IfOk};
 ghost use Rattle.unl_documents.specs.Results.{Gives};
 ghost use Rattle.unl_metrics.specs.Readable.{AreReadable};
@@ -31,13 +31,13 @@ pub struct MetricEntry {
     pub hour: u32,
     /// How many times the feature was on.
     pub yes: u64,
-    /// How many times it was off.
+    /// How many times the feature was off.
     pub no: u64,
-    /// How many times each variant was given, in byte order of names, which are different.
+    /// How many times each variant was given. In byte order of names, each name once.
     pub variants: List<VariantCount>,
 }
 
-/// The counts of a report.
+/// A report of metrics, read from JSON.
 #[derive(Debug, Drop, PartialEq)]
 pub struct Report {
     /// The entries. Several may have the same app, feature and hour.
@@ -48,13 +48,15 @@ impl Report {
     /// Reads the report that one app sends, from JSON:
     /// `{"appName":"..","bucket":{"start":"..","toggles":{"NAME":{"yes":0,"no":0,"variants":{"NAME":0}}}}}`.
     ///
-    /// `appName`, `bucket` and `start` are required. The others default to empty or 0. `start` is an instant in the years
-    /// 1970 to 9999, and its hour is that of all entries. Each toggle gives one entry.
+    /// `appName`, `bucket` and `start` are required. The other keys default to empty or 0. `start` is an instant in the
+    /// years 1970 to 9999; its hour is the hour of all entries. Each toggle gives one entry.
     ///
     /// # Errors
-    /// The first fault, with the keys in the order `appName`, then `bucket` with `start` and `toggles`, and in a toggle
-    /// `yes`, `no` and `variants`. More than 10,000 members of `toggles`, or 100 of `variants`, are `TooLarge`. The members
-    /// follow in byte order, each with its key, which is a name, before its value. `Memory` if it runs out of memory.
+    /// `NotJson`: the bytes are not a JSON object. `Memory`: out of memory. Otherwise the first fault at a key. The
+    /// keys are checked in this order: `appName`, `bucket`, in it `start` and `toggles`, and in each toggle `yes`, `no`
+    /// and `variants`. `toggles` may have at most 10,000 members, and `variants` at most 100 (`TooLarge`). This is
+    /// checked before the members. The members are checked in byte order of their keys. The key of a member must be a
+    /// valid name, and is checked before its value.
     pub fn read_single(alloc: Global, bytes: &[u8]) -> Result<Report, BadReport>
         ensures gives { Gives memory result (single_report_of bytes.now) }
         ensures valid { IfOk result IsReport }
@@ -63,14 +65,16 @@ impl Report {
         single_report(alloc, bytes)
     }
 
-    /// Reads the report that a replica sends for its apps, from JSON:
+    /// Reads the bulk report that an edge sends for its apps, from JSON:
     /// `{"metrics":[{"featureName":"..","appName":"..","timestamp":"..","yes":0,"no":0,"variants":{"NAME":0}}]}`.
     ///
-    /// `metrics` is required, and in each of its entries `featureName`, `appName` and `timestamp`.
+    /// `metrics` is required, and in each of its items `featureName`, `appName` and `timestamp`. The other keys default
+    /// to empty or 0. Each item gives one entry, at the hour of its `timestamp`, an instant in the years 1970 to 9999.
     ///
     /// # Errors
-    /// The first fault: an item of `metrics` that is no object, then more than 10,000 items, then entry by entry the keys in
-    /// the order shown, as [`Report::read_single`] reads them. `Memory` if it runs out of memory.
+    /// `NotJson`: the bytes are not a JSON object. `Memory`: out of memory. Otherwise the first fault at a key. First
+    /// all items of `metrics` must be objects, then there must be at most 10,000 of them (`TooLarge`). Then the keys of
+    /// each item are checked in the order shown, and `variants` as in [`Report::read_single`].
     pub fn read_bulk(alloc: Global, bytes: &[u8]) -> Result<Report, BadReport>
         ensures gives { Gives memory result (bulk_report_of bytes.now) }
         ensures valid { IfOk result IsReport }

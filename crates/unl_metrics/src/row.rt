@@ -1,4 +1,4 @@
-//! A key of the book with its counts.
+//! A row of the metrics book: a key and the counts at that key.
 ghost use Rattle.std.specs.Prelude.{◌≡◌, ◌≤◌, ℕ, List, false, T, fold, IfOk, OnOk, length, map, slice_get};
 ghost use Rattle.std.specs.Cmp.Lexicographic.{slice_cmp};
 ghost use Rattle.std.specs.FinMap.Entries.{is_sorted};
@@ -19,7 +19,7 @@ use std::marker::Model;
 use unl_documents::to_value::{ToValue, put, put_value};
 use unl_documents::{Field, List, Memory, Text, TryClone};
 
-/// A key of the book and its tally, stored as a report entry and the environment it is for.
+/// A key of the book and its tally (the counts at the key), stored as an environment and a report entry.
 #[derive(Drop)]
 pub(crate) struct Row {
     environment: Text,
@@ -45,7 +45,7 @@ impl Row {
         })
     }
 
-    /// Compares the keys: by environment, app, feature and hour.
+    /// Compares the keys: by environment, then app, then feature, then hour. Texts are compared byte by byte.
     pub(crate) fn compare(&self, other: &Row) -> Ordering
         ensures { result ≡ key_cmp self.now.0 other.now.0 }
     {
@@ -81,6 +81,7 @@ impl Row {
     }
 }
 
+/// Compares two texts byte by byte.
 fn compare(this: &str, that: &str) -> Ordering
     ensures { result ≡ slice_cmp nat_cmp this.now that.now }
 {
@@ -94,7 +95,7 @@ fn sum(a: u64, b: u64) -> u64
     a.saturating_add(b)
 }
 
-/// The first entry, with the counts of both added.
+/// The sum of two entries: the app, feature and hour of the first, and the sums of the counts.
 #[tactic(auto, unfolding(crate::specs::Book::tally_sum))]
 fn entry_sum(alloc: Global, this: &MetricEntry, that: &MetricEntry) -> Result<MetricEntry, Memory>
     requires { T (is_sorted (slice_cmp nat_cmp) (map pair this.now.variants)) }
@@ -111,6 +112,7 @@ fn entry_sum(alloc: Global, this: &MetricEntry, that: &MetricEntry) -> Result<Me
     })
 }
 
+/// The sum of two lists of variant counts: counts of the same name are added.
 fn variants_sum(
     alloc: Global,
     these: &List<VariantCount>,
@@ -126,6 +128,7 @@ fn variants_sum(
     Ok(List::from_vec(counts))
 }
 
+/// Adds a count to that of the same variant, or inserts it if there is none.
 fn add_variant(
     counts: &mut Vec<VariantCount>,
     alloc: Global,
@@ -163,7 +166,7 @@ fn is_at(counts: &[VariantCount], place: usize, name: &str) -> bool
 }
 
 impl Row {
-    /// The key and its tally as JSON.
+    /// The row as an item of a bulk report, in JSON.
     #[tactic(auto, unfolding(crate::specs::Bulk::counted_data))]
     pub(crate) fn write(&self, alloc: Global) -> Result<Value, Memory>
         requires { IsCounted self.now }

@@ -1,4 +1,4 @@
-//! Sums of rows.
+//! Adds rows, or the entries of a report, to the rows of a metrics book.
 ghost use Rattle.std.specs.Prelude.{◌≡◌, ◌≤◌, false, T, IfOk, OnOk, All, length, map, slice_get};
 ghost use Rattle.std.specs.List.{list_all};
 ghost use Rattle.std.specs.FinMap.Entries.{is_sorted};
@@ -12,7 +12,7 @@ use crate::row::Row;
 use std::alloc::Global;
 use unl_documents::{Memory, Shared};
 
-/// Another list of the same rows, which it shares.
+/// A new list of the same rows. The rows are shared, not copied.
 pub(crate) fn copies(alloc: Global, rows: &[Shared<Row>]) -> Result<Vec<Shared<Row>>, Memory>
     ensures { IfOk result (λ copies. copies.items ≡ rows.now) }
 {
@@ -23,7 +23,8 @@ pub(crate) fn copies(alloc: Global, rows: &[Shared<Row>]) -> Result<Vec<Shared<R
     Ok(copies)
 }
 
-/// The position of a row's key, or where it would be inserted, by binary search. The rows are in ascending order of keys.
+/// The position of a row's key, or where it would be inserted, by binary search. The rows are in ascending order of
+/// keys.
 fn place_of(rows: &[Shared<Row>], row: &Row) -> usize
     requires { T (is_sorted key_cmp rows.now) }
     ensures place { result ≡ place key_cmp row.now.0 rows.now }
@@ -42,7 +43,7 @@ fn is_at(rows: &[Shared<Row>], place: usize, row: &Row) -> bool
     }
 }
 
-/// Adds a row's tally to that of its key, or inserts the row.
+/// Adds a row's tally to the row with the same key, or inserts the row if there is none.
 fn add_row(rows: &mut Vec<Shared<Row>>, alloc: Global, row: Shared<Row>) -> Result<(), Memory>
     requires { HasOrderedKeys rows.old.items }
     ensures { OnOk result (rows.new.items ≡ with_tally rows.old.items row) }
@@ -57,7 +58,7 @@ fn add_row(rows: &mut Vec<Shared<Row>>, alloc: Global, row: Shared<Row>) -> Resu
     Ok(())
 }
 
-/// The rows with the others added.
+/// The sum of two lists of rows: tallies with the same key are added.
 pub(crate) fn sum_of(
     alloc: Global,
     rows: &[Shared<Row>],
@@ -75,7 +76,7 @@ pub(crate) fn sum_of(
     Ok(all)
 }
 
-/// The rows with a report's entries added, for an environment.
+/// The sum of the rows and the entries of a report for an environment.
 pub(crate) fn report_sum(
     alloc: Global,
     rows: &[Shared<Row>],
