@@ -1,4 +1,4 @@
--- The first block of some bytes.
+-- The first four bytes of a list, as a block.
 use Rattle.std.proofs.Common.{◌≡◌, ℕ, ◌+◌, ◌*◌, ◌≤◌, List, [], ◌∷◌, ◌++◌, length, drop, get_or, ap, arith}
 use Rattle.unl_murmur.specs.Murmur3.{state_after, after_block}
 
