@@ -1,4 +1,4 @@
--- No connection is lost: steps of the count of the connections that are held or have ended.
+-- Lemmas for the contracts that no connection is lost: what a step does to the counts of the connections that are held or have ended.
 use Rattle.std.proofs.Common.{◌≡◌, ◌<◌, ◌≤◌, ◌+◌, ◌-◌, ◌^◌, ℕ, Option, Some, Result, min, arith, refl, subst, sym}
 use Rattle.slab.specs.Slab.{slab_len}
 use Rattle.std.specs.VecDeque.{deque_len}

@@ -1,4 +1,4 @@
--- Conditions that hold in part, or in some case.
+-- Small lemmas about conjunctions, optional values and lists.
 use Rattle.std.proofs.Common.{◌≡◌, ◌∙◌, ◌&&◌, ◌++◌, [], ◌∷◌, Bool, List, Option, Some, None, OnSome, true, false, true≢false, ap, sym}
 
 -- if two conditions hold, the second does

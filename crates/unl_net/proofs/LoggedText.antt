@@ -1,4 +1,4 @@
--- The part of a request that is logged.
+-- Lemmas about the part of a request that is logged.
 use Rattle.std.proofs.Common.{◌≡◌, ◌∙◌, ◌≤◌, ◌<◌, ◌+◌, ◌-◌, ℕ, zero, suc, Bool, true}
 use Rattle.std.proofs.Common.{false, not, ◌&&◌, List, [], ◌∷◌, ◌++◌, All, length, take, drop}
 use Rattle.std.proofs.Common.{get_or, min, nat_eq, nat_le, nat_lt, filter, if◌then◌else◌, refl, sym, ap, arith, rules}
@@ -68,7 +68,7 @@ unfolding longest_prefix
 whole zero bytes logged = refl
 whole (suc n) bytes logged = rw logged refl
 
--- the longest prefix keeps to its limit
+-- the longest prefix is at most as long as its limit
 within : (n : ℕ) (bytes : List ℕ) → longest_prefix n bytes ≤ n
 unfolding longest_prefix
 within zero bytes = search arith
@@ -134,7 +134,7 @@ none_left prefix at past inside logged =
     let here : at ≡ length prefix = search arith in
     sym (whole (length prefix) prefix (ap (λ n. may_be_logged (take n prefix)) (sym here) ∙ logged))
 
--- the longest prefix within a limit is the same of the bytes cut off at the limit
+-- the longest prefix of at most `n` bytes is found in the first `m` bytes, if `n` is at most `m`
 same_on_prefix : (n m : ℕ) (bytes : List ℕ) → n ≤ m → longest_prefix n (take m bytes) ≡ longest_prefix n bytes
 unfolding longest_prefix
 same_on_prefix zero m bytes below = refl
@@ -170,7 +170,7 @@ past (suc more) bytes = ap (λ n. take (longest_prefix n bytes) bytes) next ∙ 
         ∙ ap (λ n. take n bytes) (sym (whole (length bytes) bytes (ap may_be_logged each ∙ is))))
     by false is behind = rw (ap may_be_logged all ∙ is) behind
 
--- what is logged of a request is what is logged of its first 64 bytes
+-- the logged part of a request is that of its first 64 bytes
 pub same_text : (request : List ℕ)
     → take (longest_prefix (length (take (min 64 (length request)) request)) (take (min 64 (length request)) request)) request
     ≡ logged_text request
@@ -190,7 +190,7 @@ same_text request = ap (λ prefix. take (longest_prefix (length prefix) prefix) 
         ap (λ n. take (longest_prefix n (take 64 request)) request) full
         ∙ ap (λ n. take n request) (same_on_prefix 64 64 request (search arith))
 
--- no more is logged of a prefix than its length
+-- of the first `most` bytes, at most `most` are logged
 pub cut_short : (most : ℕ) (request : List ℕ) → longest_prefix (length (take most request)) (take most request) ≤ most
 cut_short most request =
     let below : longest_prefix (length (take most request)) (take most request) ≤ length (take most request)
@@ -198,7 +198,7 @@ cut_short most request =
     let size : length (take most request) ≡ min most (length request) = length-take most request in
     search arith
 
--- each byte may be logged of bytes that may be logged together
+-- if a text may be logged, each of its bytes may be logged
 each_may : (bytes : List ℕ) → list_all is_loggable bytes ≡ true → All (λ byte. is_loggable byte ≡ true) bytes
 each_may [] logged = All-nil (λ byte. is_loggable byte ≡ true)
 each_may (byte ∷ rest) logged = by (is_loggable byte) refl logged (each_may rest)
@@ -208,7 +208,7 @@ each_may (byte ∷ rest) logged = by (is_loggable byte) refl logged (each_may re
     by true is others behind = All-cons (λ one. is_loggable one ≡ true) byte rest is (behind others)
     by false is others behind = absurd (false≢true others)
 
--- so may each byte that is logged of a request
+-- each byte of the logged part of a request may be logged
 pub cut_logged : (most : ℕ) (request : List ℕ)
     → All (λ byte. is_loggable byte ≡ true) (take (longest_prefix (length (take most request)) (take most request)) request)
 cut_logged most request =

@@ -1,4 +1,4 @@
--- Bytes that move between a stream and a buffer.
+-- Lemmas about bytes that move between a stream and a buffer.
 use Rattle.std.proofs.Common.{◌≡◌, ◌∙◌, ◌≤◌, ℕ, List, [], ◌++◌, Option, None, Some, Result}
 use Rattle.std.proofs.Common.{Ok, Err, IfOk, OnErr, MatchResult, take, drop, sym, ap, refl, subst}
 use Rattle.std.proofs.Common.{append_assoc, append-nil, take-append-drop, length, min, arith}

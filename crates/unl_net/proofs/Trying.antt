@@ -1,4 +1,4 @@
--- Reads and writes that are tried again after they failed.
+-- Lemmas about reads and writes that are tried again after they failed.
 use Rattle.std.proofs.Common.{◌≡◌, ◌∙◌, ℕ, List, [], ◌++◌, Option, None, Some, take, true, true≢false, sym, ap, refl}
 use Rattle.std.proofs.Common.{Result, Ok, Err, is_err}
 use Rattle.std.specs.Io.KnownBytes.{Appends, Consumes, Keeps, ReadConsumes, WriteAppends}

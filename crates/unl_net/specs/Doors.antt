@@ -1,4 +1,5 @@
--- The state of a door over the network, and when it closes.
+-- The state of a door over the network, and when it closes. A connection waits for its client until it is ready to be handed
+-- out as a link.
 use Rattle.std.specs.Prelude.{◌≡◌, ◌≤◌, ◌+◌, ◌-◌, ◌^◌, ◌||◌, ℕ, List, [], Option, Some, None, Result, Ok, Err}
 use Rattle.std.specs.Prelude.{is_some, nat_eq, nat_le, true}
 use Rattle.std.specs.VecDeque.{deque_len}
@@ -8,8 +9,8 @@ use Rattle.unl_net.specs.declared.counts.Counts.{Counts}
 use Rattle.unl_net.specs.declared.listener.Accepting.{Accepting}
 use Rattle.unl_net.specs.declared.reactor.Reactor.{Reactor}
 
--- The state of the door as the contracts of `Door` see it. It is closed once its last link was handed out, or 2^64 - 1 links. What its
--- links read and write is not observable.
+-- The state of the door as the contracts of `Door` see it. It is closed once its last link was handed out, or once
+-- 2^64 - 1 links were. The bytes that its links read and write are not observable.
 abbrev pub door_state : List ℕ → Counts → DoorState
 door_state ports counts = record {
   ports = ports;

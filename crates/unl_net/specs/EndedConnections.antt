@@ -1,4 +1,4 @@
--- How connections that no link serves end, and how they are counted.
+-- How a connection ends while it waits at the door and no worker serves it (as a link), and how such ends are counted.
 use Rattle.std.specs.Prelude.{◌≡◌, ◌<◌, ◌≤◌, ◌+◌, ◌-◌, ◌^◌, ℕ, ⊤, Option, Some, None, min, nat_le, true}
 use Rattle.std.specs.declared.time.Instant.{Instant}
 use Rattle.unl_net.specs.Moments.{seconds_between}
@@ -11,7 +11,7 @@ use Rattle.unl_net.specs.declared.cuts.EndReason.TheVariants.{Done, Failed, Late
 use Rattle.unl_net.specs.declared.phase.Phase.{Phase}
 use Rattle.unl_net.specs.declared.phase.Phase.TheVariants.{Idle, Receiving, Ready, Sending, Draining, Over}
 
--- a connection in this phase since that moment may end for this reason
+-- a connection that has been in this phase since that moment may end for this reason
 abbrev pub MayEnd : EndReason → Phase → Option Instant → Type 0
 MayEnd Done phase since = phase ≡ Over
 MayEnd (Failed fault) phase since = ⊤
@@ -19,7 +19,7 @@ MayEnd (Late now) phase since = nat_le (limit_of phase) (seconds_between since n
 MayEnd (CutOff cut) phase since = ⊤
 MayEnd (DoorEnds began now) phase since = nat_le 30 (seconds_between began now) ≡ true
 
--- what is counted for a connection whose time is over in this phase; an idle client is not counted as cut off
+-- the cause that is counted for a connection whose time in this phase is over; an idle client is not counted as cut off
 abbrev pub late_cut : Phase → Option Cut
 late_cut Idle = None
 late_cut Receiving = Some SlowRequest
@@ -28,7 +28,7 @@ late_cut Sending = Some SlowReader
 late_cut Draining = None
 late_cut Over = None
 
--- what is counted for a connection that ends for this reason in this phase
+-- the cause that is counted for a connection that ends for this reason in this phase, if it counts as cut off
 abbrev pub cut_of : EndReason → Phase → Option Cut
 cut_of Done phase = None
 cut_of (Failed fault) phase = None
@@ -55,7 +55,8 @@ unfoldable pub Accounts : ℕ → ℕ → ℕ → ℕ → ℕ → Type 0
 Accounts more held ended held_now ended_now =
     ended_now < 2 ^ 64 - 1 → (ended ≤ ended_now) × (held_now + ended_now ≡ held + ended + more)
 
--- The same if as many came as the count `arrived` rose by. Once that count has stopped at the largest u64, nothing is said.
+-- The same, with the increase of the count `arrived` as the number of connections that came. Once that count has stopped at the largest
+-- u64, nothing is said.
 unfoldable pub LosesNone : ℕ → ℕ → ℕ → ℕ → ℕ → ℕ → Type 0
 LosesNone arrived held ended arrived_now held_now ended_now =
     arrived_now < 2 ^ 64 - 1 → (arrived ≤ arrived_now) × Accounts (arrived_now - arrived) held ended held_now ended_now

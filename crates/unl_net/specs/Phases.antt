@@ -1,4 +1,4 @@
--- What a connection waits for while no link serves it.
+-- What a connection waits for while no link serves it. A link reads the connection's requests and writes the replies.
 use Rattle.std.specs.Prelude.{Bool, true, false, ℕ, ◌||◌, if◌then◌else◌}
 use Rattle.unl_net.specs.declared.phase.Facts.{Facts}
 use Rattle.unl_net.specs.declared.phase.Phase.{Phase}
@@ -8,8 +8,10 @@ use Rattle.unl_net.specs.declared.served.LinkStage.{LinkStage}
 use Rattle.unl_net.specs.declared.served.LinkStage.TheVariants.{Answered, Asked, Open, Parked, Failed}
 use Rattle.unl_net.specs.declared.phase.Phase.TheVariants.{Idle, Receiving, Ready, Sending, Draining, Over}
 
--- What a connection with these facts waits for. Bytes to be sent come first, then the closing of a connection that is to be closed; then
--- a whole request is served, and the rest of an unfinished one is waited for.
+-- What a connection with these facts waits for. The first case that applies decides. Bytes are still to be sent: for the client to take
+-- them. The connection is to be closed: for the client to shut down its side, if it has not. A whole request, or bytes that are refused,
+-- were received: for a link. The client has shut down its side: for nothing. A part of a request was received: for the rest. Otherwise:
+-- for the next request.
 abbrev pub phase_of : Facts → Phase
 phase_of known =
     if known.owes then Sending else
@@ -36,7 +38,7 @@ limit_of Sending = 30
 limit_of Draining = 2
 limit_of Over = 0
 
--- What becomes of a connection whose link ends at this stage. It is kept open if the link ended between two requests. Otherwise it is
+-- What happens to a connection when its link ends at this stage. It is kept open if the link ended between two requests. Otherwise it is
 -- closed: at once if a call failed or if nothing is left to be sent or read. `owes`: bytes are still to be sent; `unread`: the client may
 -- have sent bytes that no link has read.
 abbrev pub fate_of : LinkStage → Bool → Bool → Fate

@@ -1,4 +1,4 @@
--- What is logged of the replies of a server.
+-- The log of the statuses of a server's replies: what a request or a reply changes in it, and which status is logged.
 use Rattle.std.specs.Prelude.{Bool, ℕ, ◌&&◌, ◌-◌, ◌+◌, ◌*◌, List, Option, Some, None, nat_le, nat_eq}
 use Rattle.std.specs.Prelude.{if◌then◌else◌, codes, length, slice_index_or, take}
 use Rattle.std.specs.Prelude.{◌≡◌, ◌||◌, false, not, position, slice_set, unwrap_or}
@@ -12,17 +12,18 @@ use Rattle.unl_net.specs.declared.status_log.ExchangeStage.{ExchangeStage}
 use Rattle.unl_net.specs.declared.status_log.ExchangeStage.TheVariants.{Fresh, Asked, Answered}
 use Rattle.unl_net.specs.declared.status_log.StatusLog.{StatusLog}
 
--- a case distinction by how far the exchange on a connection has come
+-- The statement that belongs to the stage of the exchange on a connection: the first if nothing was written yet, the second if a request
+-- was written, the third if something was read.
 abbrev pub match_stage : ExchangeStage → Type 0 → Type 0 → Type 0 → Type 0
 match_stage Fresh fresh asked answered = fresh
 match_stage Asked fresh asked answered = asked
 match_stage Answered fresh asked answered = answered
 
--- a digit
+-- whether a byte is an ASCII digit
 abbrev pub is_digit : ℕ → Bool
 is_digit byte = nat_le 48 byte && nat_le byte 57
 
--- the number with these three digits
+-- the number with these three ASCII digits; `None` if one of them is no digit
 abbrev pub digits_of : ℕ → ℕ → ℕ → Option ℕ
 digits_of first second third =
     if is_digit first && is_digit second && is_digit third
@@ -40,34 +41,35 @@ status_of reply =
 abbrev pub class_of : ℕ → ℕ
 class_of status = if (nat_le 200 status && nat_le status 299) || nat_eq status 304 then 0 else status
 
--- an entry that no kind of request has: the key 0 belongs to no kind, and at first all is well, which is not logged
+-- A free entry. Its key 0 is that of no kind of request, and its class 0 means that all is well.
 abbrev pub nothing_known : Known
 nothing_known = record { key = 0; logged = record { last = 0 }; fed = false }
 
--- the index of the entry for a kind of request: the first entry that is its own or free
+-- the index of the entry for the kind of request with this key: the first entry that has the key or is free
 abbrev pub place_of : ℕ → List Known → Option ℕ
 place_of key known = position (λ entry. nat_eq entry.key key || nat_eq entry.key 0) known
 
--- the class last logged for the kind with this entry
+-- the class last logged for the kind of request whose entry is at this index
 abbrev pub last_at : List Known → ℕ → ℕ
 last_at known at = (slice_index_or known at nothing_known).logged.last
 
--- whether the last reply to the kind with this entry was a feed
+-- whether the last reply to the kind of request whose entry is at this index was a feed
 abbrev pub fed_at : List Known → ℕ → Bool
 fed_at known at = (slice_index_or known at nothing_known).fed
 
--- The class to note for a reply. After a feed that was not taken, a further feed does not change the class: only the next request shows
--- whether that one was taken.
+-- The class to note for a reply. A feed is taken if this program accepts it; then the next request for it has a tag. 1000 is the class
+-- of a feed that was not taken. After such a feed a further feed does not change the class: only the next request shows whether that
+-- feed was taken.
 abbrev pub next_class : ℕ → ℕ → Bool → ℕ
 next_class last class fed = if fed && nat_eq last 1000 then last else class
 
--- the entries after a reply to a kind
+-- the entries after a reply to the kind of request with this key
 abbrev pub after_reply : ℕ → ℕ → Bool → List Known → List Known
 after_reply key class fed known = option_map_or
     (λ at. slice_set known at (record { key = key; logged = record { last = next_class (last_at known at) class fed }; fed = fed }))
     (place_of key known) known
 
--- a reply is news if its class differs from the one last logged for its kind
+-- whether a reply is news: its class differs from the class last logged for its kind of request
 abbrev pub is_news : ℕ → ℕ → Bool → List Known → Bool
 is_news key class fed known =
     option_map_or (λ at. not (nat_eq (next_class (last_at known at) class fed) (last_at known at))) (place_of key known) false
@@ -87,7 +89,7 @@ after_request key has_tag known = option_map_or
     (record { key = key; logged = record { last = taken_class has_tag }; fed = false }) else known)
     (place_of key known) known
 
--- what is to be logged after a request, if it is news
+-- the status to be logged after a request, if it is news
 abbrev pub logged_request : ℕ → Bool → List Known → Option LoggedStatus
 logged_request key has_tag known = option_and_then
     (λ at. if fed_at known at && not (nat_eq (taken_class has_tag) (last_at known at))
@@ -112,7 +114,7 @@ reply_status reply = unwrap_or (status_of reply) 1
 abbrev pub is_fed : StatusLog → List ℕ → Bool
 is_fed log reply = log.kind.is_feed && nat_eq (reply_status reply) 200
 
--- what is to be logged for a reply with this status, if it is news
+-- the status to be logged for a reply with this status, if it is news
 abbrev pub logged_reply : ℕ → ℕ → Bool → List Known → Option LoggedStatus
 logged_reply key status fed known = if is_news key (class_of status) fed known then Some (record { status = status }) else None
 

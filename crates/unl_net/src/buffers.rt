@@ -4,7 +4,7 @@ ghost use Rattle.std.specs.Prelude.{◌≡◌, ◌≢◌, ◌+◌, ◌-◌, ◌=
 use std::alloc::{AllocError, Global};
 use unl_http_api::{Frame, request_frame};
 
-/// Received bytes.
+/// Received bytes. A link may read those that were opened: a whole request, or bytes that are refused.
 #[derive(Drop)]
 pub(crate) struct ReceiveBuffer {
     bytes: Vec<u8>,
@@ -73,8 +73,8 @@ impl ReceiveBuffer {
         self.bytes.extend_from_slice(bytes).unwrap();
     }
 
-    /// Measures the request at the start of the unread bytes. If an allocation fails, which only very long heads need, the request
-    /// counts as unfinished.
+    /// Measures the request at the start of the unread bytes. Only a very long head needs an allocation; if that fails,
+    /// the request counts as unfinished.
     fn first_frame(&self, alloc: Global) -> Frame
         ensures { result ≢ Frame.More → IsFrame (unread self.now) result }
     {

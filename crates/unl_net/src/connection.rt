@@ -1,4 +1,5 @@
-//! A connection of a door. The reactor of the door holds it while it waits, and a link while its requests are served.
+//! A connection of a door. While it waits for the client or for a link, the reactor of the door holds it. While its
+//! requests are served, a link holds it.
 ghost use Rattle.std.specs.Prelude.{◌≡◌, ◌==◌, ◌≤◌, ◌||◌, [], false, length, nat_le, IfOk, IfSome};
 ghost use Rattle.std.specs.Io.KnownBytes.{Keeps, WriteAppends};
 ghost use Rattle.unl_net.specs.Buffers.{HasPrefix, ConsumesReturnedIfAny, coming, facts_of, outgoing, unread, unsent};
@@ -25,13 +26,13 @@ pub(crate) const PIECE: usize = 4_096;
 /// A bound on each loop of reads: more pieces than the longest request has.
 const MOST_PIECES: usize = 300;
 
-/// A connection, with what was received and not read yet, and what is still to be sent.
+/// A connection, with the received bytes that no link has read yet, and the bytes that are still to be sent.
 #[derive(Drop)]
 pub(crate) struct Connection<S: Read + Write + OpenStream + Drop> {
     pub stream: S,
     pub received: ReceiveBuffer,
     pub to_send: SendBuffer,
-    /// Whether the received bytes are refused: they are no request, or one whose head breaks a rule.
+    /// Whether the received bytes are refused: they are not an HTTP request, or the head of the request breaks a rule.
     pub refused: bool,
     /// Whether the client has shut down its side: no more bytes come.
     pub ended: bool,
@@ -104,7 +105,8 @@ impl<S: Read + Write + OpenStream + Drop> Connection<S> {
         Ok(())
     }
 
-    /// Opens the first unread request, and returns whether it is whole or refused.
+    /// Parses the start of the unread bytes, and opens the first request if it is whole: a link may then read its
+    /// bytes. Opens all unread bytes if they are refused. Returns whether the request is whole or refused.
     pub fn open(&mut self, alloc: Global) -> bool
         ensures same { unread self.new.received ≡ unread self.old.received }
         ensures others { (self.new.stream ≡ self.old.stream) × (self.new.to_send ≡ self.old.to_send) }
@@ -122,7 +124,7 @@ impl<S: Read + Write + OpenStream + Drop> Connection<S> {
         self.closing = self.closing || self.received.is_empty();
     }
 
-    /// The facts that decide its phase.
+    /// The facts that decide the phase of the connection.
     fn facts(&self) -> Facts
         ensures { result ≡ facts_of self.now.received self.now.to_send self.now.closing self.now.ended }
     {
@@ -135,14 +137,15 @@ impl<S: Read + Write + OpenStream + Drop> Connection<S> {
         }
     }
 
-    /// Its phase: what it waits for.
+    /// The phase of the connection: what it waits for.
     pub fn phase(&self) -> Phase
         ensures { result ≡ phase_of (facts_of self.now.received self.now.to_send self.now.closing self.now.ended) }
     {
         phase_of(self.facts())
     }
 
-    /// Whether it has waited too long: at `now` it has been in its phase for as long as that allows.
+    /// Whether the connection has waited too long: at `now` it has been in its phase for at least the phase's time
+    /// limit.
     pub fn is_late(&self, now: Option<Instant>) -> bool
         ensures { result ≡ nat_le
             (limit_of (phase_of (facts_of self.now.received self.now.to_send self.now.closing self.now.ended)))
@@ -229,8 +232,8 @@ impl<S: Read + Write + OpenStream + Drop> Connection<S> {
         }
     }
 
-    /// Advances a connection that no link serves: sends the bytes to be sent, then reads what came. No received byte is lost unless the
-    /// connection is to be closed. Returns its new phase.
+    /// Advances a connection that no link serves: sends the bytes to be sent, then reads what came. No received byte is
+    /// lost unless the connection is to be closed. Returns its new phase.
     ///
     /// # Errors
     /// The error of the stream, or out of memory.
@@ -383,7 +386,8 @@ impl<S: Read + Write + OpenStream + Drop> Connection<S> {
         ensures kept { Keeps (coming self.old.received (S.remaining self.old.stream))
             (coming self.new.received (S.remaining self.new.stream)) }
     {
-        // After an unfinished request the client may already have shut down its side, and no further event reports that.
+        // The end of the stream was already read. The loop reads on after an unfinished request to find this end,
+        // because no further event reports that the client has shut down its side.
         if self.ended {
             return Ok(false);
         }

@@ -1,7 +1,7 @@
 //! The counts of the links of a door.
 ghost use Rattle.std.specs.Prelude.{◌≤◌};
 
-/// How many links a door has handed out and taken back, and whether the last one was handed out.
+/// How many links a door has handed out and taken back. If `closed`, the door hands out no more links.
 #[derive(Clone, Copy)]
 pub(crate) struct Counts {
     pub closed: bool,

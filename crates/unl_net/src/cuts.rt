@@ -1,5 +1,5 @@
-//! Why connections end, and the counts of those that were cut off. These and the answers with a status of 500 or more are logged once
-//! a minute at most.
+//! Why connections end, and how many were cut off. These counts, and that of the answers with a status of 500 or more,
+//! are logged once a minute at most.
 ghost use Rattle.std.specs.Prelude.{◌≡◌};
 ghost use Rattle.unl_net.specs.EndedConnections.{with_cut_if_any, with_cut, cut_of, late_cut};
 
@@ -19,28 +19,30 @@ pub(crate) enum Cut {
     SlowRequest,
     /// The client received no byte of an answer in time.
     SlowReader,
-    /// Its descriptor was needed.
+    /// The door had no room or no file descriptor for another connection, and closed this one to free some.
     Room,
     /// Its memory was needed, or an allocation failed.
     Memory,
 }
 
-/// Why a connection ends that no link serves.
+/// Why a connection ends while the door holds it, so no link serves it.
 #[derive(Clone, Copy)]
 pub(crate) enum EndReason {
-    /// It is over: its client shut it down, and nothing is left to be sent.
+    /// The client shut the connection down, and nothing is left to be sent.
     Done,
-    /// A call of its stream failed, or the wait for events did.
+    /// A call of its stream failed, or the door's wait for events failed.
     Failed(io::Error),
-    /// At this moment it has waited longer than its phase allows.
+    /// It has waited longer than its phase allows. The field is the moment at which this was checked.
     Late(Option<Instant>),
     /// It is cut off.
     CutOff(Cut),
-    /// Its door ends. Accepting failed for good at the first moment, at least 30 seconds before the second.
+    /// The door ends all its connections, at least 30 seconds after accepting new ones failed for good. The fields are
+    /// the moment of that failure, and the moment at which the 30 seconds were checked.
     DoorEnds(Option<Instant>, Option<Instant>),
 }
 
-/// What is counted for a connection whose time is over in this phase. An idle client is not counted as cut off.
+/// The cause that is counted for a connection that waited too long in this phase. Returns `None` if the connection does
+/// not count as cut off, such as an idle one.
 fn late_cut(phase: Phase) -> Option<Cut>
     ensures { result ≡ late_cut phase }
 {
@@ -51,7 +53,7 @@ fn late_cut(phase: Phase) -> Option<Cut>
     }
 }
 
-/// What is counted for a connection that ends for this reason in this phase.
+/// The cause that is counted for a connection that ends for this reason in this phase, if it counts as cut off.
 pub(crate) fn cut_of(reason: EndReason, phase: Phase) -> Option<Cut>
     ensures { result ≡ cut_of reason phase }
 {
@@ -157,7 +159,7 @@ impl EachMinute {
         is_due
     }
 
-    /// The counts since the last line, if a line is due.
+    /// The counts since the last line, if a line is due. `cuts` then begins again at 0.
     pub fn due_cuts(&mut self, now: Option<Instant>, cuts: &mut Cuts) -> Option<Cuts> {
         if cuts.sum() == 0 || !self.is_due(now) {
             return None;

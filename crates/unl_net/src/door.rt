@@ -1,4 +1,4 @@
-//! A door over the network.
+//! A door that accepts connections of the network, and hands out those with a whole request as links.
 ghost use Rattle.slab.specs.Slab.{slab_len};
 ghost use Rattle.std.specs.Prelude.{◌≡◌, ◌+◌, ◌-◌, ◌^◌, ◌∷◌, [], IfNone, IfOk, IfSome, None, OnErr};
 ghost use Rattle.std.specs.Prelude.{true, unwrap_or};
@@ -29,7 +29,7 @@ const MOST_IN_A_ROW: u64 = 32;
 /// The longest wait for an event, in milliseconds.
 const LONG_WAIT: u64 = 1_000;
 
-/// The same while a connection waits to be accepted and there is no room for it yet.
+/// The longest wait for an event while a connection is pending and there is no room for it yet, in milliseconds.
 const SHORT_WAIT: u64 = 10;
 
 /// A door over the network. It listens on all IPv6 and IPv4 addresses of this machine if one socket can do both, otherwise on all IPv4
@@ -39,7 +39,7 @@ const SHORT_WAIT: u64 = 10;
 pub struct RealDoor<N: Net + Clock + Eprint + Wait + Copy + Drop> {
     net: N,
     alloc: Global,
-    /// The ports that it listened at, in order. There is room for one from the start.
+    /// The ports that the door listened at, in order. There is room for one from the start.
     ports: Vec<u16>,
     listener: Option<N::Listener>,
     reactor: Option<Reactor<N::Stream>>,
@@ -51,9 +51,9 @@ pub struct RealDoor<N: Net + Clock + Eprint + Wait + Copy + Drop> {
 }
 
 impl<N: Net + Clock + Eprint + Wait + Copy + Drop> RealDoor<N> {
-    /// A door that doesn't listen yet and has counted no fault. It accepts `bound` connections and closes with their last link; without
-    /// a bound it accepts 2^64 - 1. `workers` is how many links are served at once by threads other than the one that accepts, or 0 if
-    /// that one serves them.
+    /// A door that doesn't listen yet and has counted no fault. It accepts `bound` connections and closes with their
+    /// last link; without a bound it accepts 2^64 - 1. `workers`: how many worker threads serve links at the same time,
+    /// or 0 if the thread that calls `accept` serves them.
     ///
     /// # Errors
     /// Out of memory.
@@ -86,7 +86,8 @@ impl<N: Net + Clock + Eprint + Wait + Copy + Drop> RealDoor<N> {
 /// Waits for the next link, and returns whether it is the last one.
 ///
 /// # Errors
-/// Out of memory, or the error with which accepting or waiting for events failed for good, once the existing connections are served.
+/// Out of memory. If accepting or waiting for events failed for good: the error of that failure, once no connection is
+/// left. `NotConnected` if the door doesn't listen, or if all connections that its bound allows have ended.
 #[tactic(auto, using(crate::proofs::Accounting::unchanged, crate::proofs::Accounting::of_opened))]
 fn next_link<N: Net + Clock + Eprint + Wait + Copy + Drop>(
     alloc: Global,
@@ -135,9 +136,9 @@ fn next_link_or_fault<N: Net + Clock + Eprint + Wait + Copy + Drop>(
     Ok(next)
 }
 
-/// Waits for the next link of a reactor, and returns whether it is the last one. `None`: no connection is left and no more are
-/// accepted. No connection is lost meanwhile: of those that were there or arrived, one is the link, and each other one waits, is ready
-/// or was counted as ended.
+/// Waits for the next link of a reactor, and returns whether it is the last one. `None`: no connection is left and no
+/// more are accepted. No connection is lost: each one that the reactor had before, that was accepted meanwhile, or that
+/// a link returned, is now the link, waits, is ready, or was counted as ended.
 ///
 /// # Errors
 /// Out of memory.
@@ -273,7 +274,7 @@ fn accept_and_wait<N: Net + Clock + Eprint + Wait + Copy + Drop>(
         reports.new.arrived (slab_len reactor.new.waiting + deque_len reactor.new.ready) reactor.new.ended }
 {
     accept_more(alloc, net, listener, reactor, accepting, reports);
-    // Links wake the door from here on.
+    // From here on, a link that returns a connection wakes the door.
     reactor.shared.note_sleep(true);
     wait_for_events(net, reactor, accepting, reports);
 }
@@ -327,8 +328,8 @@ fn wait_limit<S: Read + Write + OpenStream + AsRawFd + Drop>(
     }
 }
 
-/// Hands out the first connection that is ready, if there is one, and returns whether it is the last link. The pointer to what a link
-/// shares with the door is copied first: if that fails, the connection stays ready.
+/// Hands out the first connection that is ready, if there is one, and returns whether it is the last link. The link's
+/// pointer to the shared state is cloned first: if that fails, the connection stays ready.
 ///
 /// # Errors
 /// Out of memory.
@@ -405,11 +406,15 @@ impl<N: Net + Clock + Eprint + Wait + Copy + Drop> Door for RealDoor<N> {
         }
     }
 
-    /// Hands out a connection from which a whole request was received. The door closes only with the last link of the connections that
-    /// its bound allows. After accepting failed for good, the existing connections wait on, each is closed after its answers, and the
-    /// door fails once none is left, after 30 seconds at most. After waiting for events failed for good, it hands out the connections
-    /// from which a whole request was received, and then fails. No connection is lost: of those that were there or arrived meanwhile,
-    /// one is the link, and each other one waits, is ready or was counted as ended.
+    /// Hands out a connection from which a whole request was received. The door closes only with the last link of the
+    /// connections that its bound allows.
+    ///
+    /// If accepting fails for good, the existing connections continue to wait for their requests. Each is closed after
+    /// its requests are answered. The door fails when none is left, after 30 seconds at most. If waiting for events
+    /// fails for good, the door hands out the connections from which a whole request was received, and then fails.
+    ///
+    /// No connection is lost: each one that the door held before, that was accepted meanwhile, or that a link returned,
+    /// is now the link, waits, is ready, or was counted as ended.
     #[tactic(auto, using(crate::proofs::Accounting::unchanged))]
     fn accept(&mut self) -> Result<Option<Self::L>, Failed>
         ensures accepts { IfOk result (λ link. Accepts link (door_state self.old.ports.items self.old.counts)

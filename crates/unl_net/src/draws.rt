@@ -1,4 +1,5 @@
-//! Draws of the system: the moments of its clock, and words of a generator that it seeds.
+//! Supplies a draw for each request: the time of the system's clock, and a word of a random generator with a random
+//! seed.
 ghost use Rattle.rand_core.specs.Stream.{next_u64};
 ghost use Rattle.std.specs.Prelude.{◌≡◌, None};
 ghost use Rattle.unl_base.specs.Draws.{IsInLimit};
@@ -10,8 +11,11 @@ use std::random::RandomSource;
 use std::time::Clock;
 use unl_base::{Draw, Draws, RealDraws};
 
-/// Draws with the moments of a clock. The words come from a small generator, which is unfit for secrets. Random bytes of the system
-/// seed it, so that programs that start in the same millisecond draw different words. If the system gives none, the clock seeds it.
+/// A supply of draws. A draw is a time and a random word. The times come from a clock, and the words from a PCG
+/// generator, which is unfit for secrets.
+///
+/// The generator's seed is random bytes of the system, so that programs that start in the same millisecond draw
+/// different words. If the system's random source fails, the seed is the time.
 #[derive(Drop)]
 pub struct SystemDraws<C: Clock + Copy + Drop> {
     moments: RealDraws<C>,
@@ -19,7 +23,8 @@ pub struct SystemDraws<C: Clock + Copy + Drop> {
 }
 
 impl<C: Clock + RandomSource + Copy + Drop> SystemDraws<C> {
-    /// Draws with the clock and the random bytes of this system.
+    /// Creates a supply that reads the time from this system's clock. The generator is seeded with random bytes of the
+    /// system, or with the time if reading these bytes fails.
     pub fn new(system: C) -> Self {
         let mut moments = RealDraws::new(system);
         let words = match seeds_of(&system) {
@@ -30,7 +35,10 @@ impl<C: Clock + RandomSource + Copy + Drop> SystemDraws<C> {
     }
 }
 
-/// Two random numbers of the system, to seed a generator.
+/// Reads two random numbers from the system: the generator's initial state and its stream.
+///
+/// # Errors
+/// The system's random source failed.
 fn seeds_of<R: RandomSource>(system: &R) -> io::Result<(u64, u64)> {
     let mut state = [0; 8];
     let mut stream = [0; 8];
@@ -42,7 +50,7 @@ fn seeds_of<R: RandomSource>(system: &R) -> io::Result<(u64, u64)> {
 impl<C: Clock + Copy + Drop> Draws for SystemDraws<C> {
     ghost coming = { λ _. None };
 
-    /// Returns the present moment, and the generator's next word.
+    /// Returns the current time and the generator's next word.
     fn draw(&mut self) -> Draw
         ensures limit { IsInLimit result }
         ensures word { (result.word, ⟦<Lcg64Xsh32 as Rng>⟧.stream self.new.words)
@@ -55,7 +63,8 @@ impl<C: Clock + Copy + Drop> Draws for SystemDraws<C> {
         }
     }
 
-    /// Draws with the same clock and other words.
+    /// Returns a separate supply with the same clock. This generator's next two words seed the generator of the new
+    /// supply.
     fn split(&mut self) -> Self {
         let state = self.words.next_u64();
         let stream = self.words.next_u64();

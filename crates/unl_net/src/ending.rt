@@ -1,5 +1,6 @@
-//! Ends connections that wait: the one that has received most if memory is short, the oldest if room is short, and those that have waited
-//! too long. It also decides what becomes of all of them once no more are accepted.
+//! Ends connections that wait for their clients: the one with the most received bytes if memory is short, the oldest
+//! one if there are as many connections as allowed, and each one that has waited too long. It also decides what happens
+//! to all of them once no more are accepted.
 ghost use Rattle.slab.specs.Slab.{slab_len};
 ghost use Rattle.std.specs.Prelude.{◌≡◌, ◌+◌, ◌&&◌, nat_le};
 ghost use Rattle.std.specs.VecDeque.{deque_len};
@@ -21,14 +22,14 @@ use std::time::Instant;
 /// The most bytes of unfinished requests, of all connections together.
 const MOST_RECEIVED: u64 = 67_108_864;
 
-/// How many connections are closed at once if the system gives no more descriptors.
+/// How many connections are closed at once if the system has no more file descriptors, or no memory for one.
 pub(crate) const CLOSED_AT_ONCE: usize = 8;
 
 /// The longest time that connections may wait after accepting failed for good, in seconds.
 const LAST_SECONDS: u64 = 30;
 
 impl<S: Read + Write + OpenStream + AsRawFd + Drop> Reactor<S> {
-    /// Cuts off a connection that waits.
+    /// Ends the waiting connection with this key, if there is one, and counts it as cut off for this cause.
     #[tactic(auto, using(crate::proofs::Accounting::same, crate::proofs::Accounting::placed))]
     pub(crate) fn cut_off(&mut self, key: usize, cut: Cut)
         ensures accounts { Accounts 0 (slab_len self.old.waiting + deque_len self.old.ready) self.old.ended
@@ -61,7 +62,7 @@ impl<S: Read + Write + OpenStream + AsRawFd + Drop> Reactor<S> {
         }
     }
 
-    /// The connection that has received most.
+    /// The key of the waiting connection with the most received bytes, if one waits.
     fn largest(&self) -> Option<usize> {
         let mut largest: Option<(usize, usize)> = None;
         for (key, connection) in self.waiting.iter() {
@@ -89,7 +90,7 @@ impl<S: Read + Write + OpenStream + AsRawFd + Drop> Reactor<S> {
         true
     }
 
-    /// Closes the connections that have waited longest, as many as are closed at once.
+    /// Closes the [`CLOSED_AT_ONCE`] connections that have waited longest, preferably those without a request.
     #[tactic(auto, using(crate::proofs::Accounting::same, crate::proofs::Accounting::step))]
     pub(crate) fn close_some(&mut self)
         ensures accounts { Accounts 0 (slab_len self.old.waiting + deque_len self.old.ready) self.old.ended
@@ -100,7 +101,7 @@ impl<S: Read + Write + OpenStream + AsRawFd + Drop> Reactor<S> {
         }
     }
 
-    /// The connection that has waited longest, preferably one without a request.
+    /// The key of the connection that has waited longest, preferably one without a request, if one waits.
     pub(crate) fn oldest(&self) -> Option<usize> {
         let mut oldest: Option<(bool, Instant, usize)> = None;
         for (key, connection) in self.waiting.iter() {
@@ -126,7 +127,8 @@ impl<S: Read + Write + OpenStream + AsRawFd + Drop> Reactor<S> {
         self.ended = self.ended.saturating_add(1);
     }
 
-    /// Ends the connections whose time is over, once a second. If there is no memory to note all of them, the rest end later.
+    /// Ends the connections whose time is over, at most once a second. If there is no memory to note all of them, the
+    /// rest end later.
     #[tactic(auto, using(crate::proofs::Accounting::same))]
     pub fn sweep(&mut self, now: Option<Instant>)
         ensures accounts { Accounts 0 (slab_len self.old.waiting + deque_len self.old.ready) self.old.ended
@@ -188,7 +190,9 @@ impl<S: Read + Write + OpenStream + AsRawFd + Drop> Reactor<S> {
         self.place(connection)
     }
 
-    /// Whether the door need not wait for a link: there is none, or a connection that it gives back could not wait any longer.
+    /// Whether the door need not wait until its links return their connections: there are no links; or waiting for
+    /// events failed for good, so that a returned connection could not wait for its client; or no connection may wait
+    /// any longer (see `is_over`).
     pub(crate) fn needs_no_link(&self, now: Option<Instant>) -> bool {
         self.has_no_links() || self.wait_fault.is_some() || self.is_over(now)
     }
@@ -213,9 +217,10 @@ impl<S: Read + Write + OpenStream + AsRawFd + Drop> Reactor<S> {
         self.place_all()
     }
 
-    /// Notes that as many connections were accepted as the bound allows. From now on each connection from which a request may still
-    /// come is ready for a link, which serves it to its end, and the door closes with the last link. If there is no memory to note all
-    /// of them, the rest are served once a whole request was received.
+    /// Notes that as many connections were accepted as the bound allows. From now on each connection from which a
+    /// request may still come is ready for a link, even before a request was received. The link serves it until the
+    /// connection ends. The door closes when the last link ends. If memory runs out while the keys of the waiting
+    /// connections are collected, the rest become ready for a link once a whole request was received.
     pub fn note_accepted_all(&mut self)
         ensures accounts { Accounts 0 (slab_len self.old.waiting + deque_len self.old.ready) self.old.ended
             (slab_len self.new.waiting + deque_len self.new.ready) self.new.ended }
@@ -225,7 +230,8 @@ impl<S: Read + Write + OpenStream + AsRawFd + Drop> Reactor<S> {
         self.place_all()
     }
 
-    /// Places again all connections that wait, as far as there is memory to note them.
+    /// Takes out all connections that wait and places each again by its phase (see [`Reactor::place`]), as far as there
+    /// is memory to note their keys.
     fn place_all(&mut self)
         ensures accounts { Accounts 0 (slab_len self.old.waiting + deque_len self.old.ready) self.old.ended
             (slab_len self.new.waiting + deque_len self.new.ready) self.new.ended }
@@ -273,7 +279,8 @@ impl<S: Read + Write + OpenStream + AsRawFd + Drop> Reactor<S> {
     }
 }
 
-/// Notes the keys of all connections, or only of those whose time is over at this moment.
+/// Collects the keys of all waiting connections, or, unless `all`, only of those whose time is over at `now`. It stops
+/// if an allocation fails.
 fn note_keys<S: Read + Write + OpenStream + AsRawFd + Drop>(
     waiting: &Slab<Connection<S>>,
     keys: &mut Vec<usize>,
@@ -288,7 +295,8 @@ fn note_keys<S: Read + Write + OpenStream + AsRawFd + Drop>(
     }
 }
 
-/// Whether a connection that has received this much has received more than the largest one so far.
+/// Whether a connection with this number of received bytes has more than `largest`, the choice among the connections
+/// before it.
 fn is_more(received: usize, largest: &Option<(usize, usize)>) -> bool {
     match largest {
         None => true,
@@ -296,8 +304,8 @@ fn is_more(received: usize, largest: &Option<(usize, usize)>) -> bool {
     }
 }
 
-/// Whether a connection is to be closed rather than the oldest one so far: it is idle and that one is not, or both are alike in this and
-/// it has waited longer.
+/// Whether a connection is to be closed rather than `oldest`, the choice among the connections before it: an idle
+/// connection is closed before a busy one, and of two idle or two busy ones, the one that has waited longer.
 fn is_older(is_busy: bool, since: Instant, oldest: &Option<(bool, Instant, usize)>) -> bool {
     match oldest {
         None => true,

@@ -11,7 +11,8 @@ const MOST_SECONDS: u64 = 30;
 /// For how many seconds a server is not asked after it used up its time.
 const REST_SECONDS: u64 = 5;
 
-/// When an exchange began, and when the last one that used up its time ended. If the clock can't be read, no time counts as passed.
+/// When the latest exchange began, and when a server last used up the time of an exchange. If the clock can't be read,
+/// no time counts as passed.
 #[derive(Clone, Copy)]
 pub(crate) struct Exchange {
     begun: Option<Instant>,
@@ -50,7 +51,7 @@ impl Exchange {
         }
     }
 
-    /// Whether the server must not be asked now.
+    /// Whether the server must not be asked now: it used up the time of an exchange less than 5 seconds ago.
     pub fn rests(&self, now: Option<Instant>) -> bool
         ensures { result ≡ rests self.now now }
     {

@@ -7,11 +7,11 @@ use libc::{RLIMIT_NOFILE, getrlimit};
 /// The most connections that a door holds.
 const MOST_CONNECTIONS: u64 = 16_384;
 
-/// How many descriptors are reserved for the rest of the program.
+/// How many file descriptors are reserved for the rest of the program.
 const RESERVED: u64 = 64;
 
-/// How many connections a door may hold: the process's limit of descriptors, less those for the rest of the program. 512 if the limit
-/// can't be read.
+/// How many connections a door may hold: the process's limit of file descriptors, less those for the rest of the
+/// program, and 16,384 at most. 512 if the limit can't be read.
 pub(crate) fn most_connections() -> usize
     ensures some { 0 < result }
     ensures most { result ≤ 16384 }

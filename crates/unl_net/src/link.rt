@@ -1,4 +1,4 @@
-//! A link over a connection of a door.
+//! A link over a connection of a door: it reads the requests that were received, and sends the replies.
 ghost use Rattle.std.specs.Prelude.{◌≡◌, ◌<◌, ◌≤◌, length, IfOk, None};
 ghost use Rattle.std.specs.Io.KnownBytes.{WriteAppends};
 ghost use Rattle.unl_base.specs.Faults.{HasExactCause};
@@ -15,8 +15,8 @@ use std::sync::{Arc, Wait};
 use std::time::Clock;
 use unl_base::{Failed, Link, Sink, Source};
 
-/// A link over a connection. It reads whole requests only. Once these are answered and no further one is there, it ends, and its
-/// connection goes back to the door, which hands it out again as another link.
+/// A link over a connection. It reads whole requests only. The link ends once it has replied to these and no further
+/// whole request was received. Its connection then goes back to the door, which can hand it out again as another link.
 #[derive(Drop)]
 pub struct RealLink<S: Read + Write + OpenStream + Drop, C: Clock + Wait + Drop> {
     served: ServedConnection<S, C>,
@@ -49,7 +49,7 @@ impl<S: Read + Write + OpenStream + Drop, C: Clock + Wait + Drop> Source for Rea
 
     ghost other_parts = { λ _. no_other_parts };
 
-    /// Reads bytes of whole requests. Returns 0 once the link has ended.
+    /// Reads bytes of whole requests. Returns 0 once the link has ended. On an error the fault count is incremented.
     fn read(&mut self, room: &mut [u8]) -> Result<usize, Failed>
         requires { 0 < length room.old }
         ensures fits { IfOk result (λ n. n ≤ length room.new) }
@@ -75,7 +75,7 @@ impl<S: Read + Write + OpenStream + Drop, C: Clock + Wait + Drop> Sink for RealL
 
     ghost other_parts = { λ _. no_other_parts };
 
-    /// Sends the piece, and keeps what the client doesn't take yet to be sent later.
+    /// Sends the piece. Bytes that the client doesn't take yet are kept, to be sent later.
     fn write(&mut self, piece: &[u8]) -> Result<usize, Failed>
         requires { 0 < length piece.now }
         ensures some { IfOk result (λ n. 0 < n) }

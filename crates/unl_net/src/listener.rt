@@ -27,13 +27,14 @@ const ACCEPT_PAUSE: u64 = 10;
 /// The logged state while accepting fails.
 const FAILS: u16 = 1;
 
-/// The Linux error numbers of permanent errors: the descriptor is invalid, or not that of a listening socket.
+/// The Linux error numbers that count as permanent, after which no accept is tried again: EBADF, EFAULT, EINVAL,
+/// ENOTSOCK and EOPNOTSUPP.
 const LASTING: [i32; 5] = [9, 14, 22, 88, 95];
 
-/// The Linux error numbers that say that there are no more descriptors, or no memory for one.
+/// The Linux error numbers of a shortage of file descriptors or of memory for one: ENOMEM, ENFILE, EMFILE and ENOBUFS.
 const SHORTAGES: [i32; 4] = [12, 23, 24, 105];
 
-/// Whether an error says that there are no more descriptors, or no memory for one.
+/// Whether an error means that there are no more file descriptors, or no memory for one.
 fn is_shortage(fault: &io::Error) -> bool {
     match fault.raw_os_error() {
         Some(code) => SHORTAGES.contains(&code),
@@ -41,7 +42,8 @@ fn is_shortage(fault: &io::Error) -> bool {
     }
 }
 
-/// Whether an error is temporary.
+/// Whether an error is temporary, so that accepting is tried again: it has a system error number that is not in
+/// `LASTING`.
 fn is_temporary(fault: &io::Error) -> bool {
     match fault.raw_os_error() {
         Some(code) => !LASTING.contains(&code),
@@ -49,7 +51,7 @@ fn is_temporary(fault: &io::Error) -> bool {
     }
 }
 
-/// How many connections were accepted, how many may be, and what of that was logged.
+/// How many connections were accepted, how many may be accepted in all, and the log of failed accepts.
 #[derive(Clone, Copy)]
 pub(crate) struct Accepting {
     pub log: Log,
@@ -64,7 +66,7 @@ pub(crate) struct Accepting {
 }
 
 impl Accepting {
-    /// No connection was accepted yet.
+    /// The initial state, with no accepted connection and no fault. At most `bound` connections may be accepted.
     pub fn new(bound: u64) -> Self
         ensures bound { result.bound ≡ bound }
         ensures none { result.accepted ≡ 0 }
@@ -117,7 +119,7 @@ impl Accepting {
         }
     }
 
-    /// Notes that an accept succeeded.
+    /// Notes that an accept succeeded, and logs it if the previous accept failed.
     fn note_well<N: Eprint>(&mut self, net: &N)
         ensures { (self.new.bound ≡ self.old.bound) × (self.new.accepted ≡ self.old.accepted) }
     {
@@ -126,7 +128,7 @@ impl Accepting {
         }
     }
 
-    /// Notes that an accept failed for now, and pauses.
+    /// Notes that an accept failed for now, logs it unless the previous accept failed too, and pauses.
     fn note_fault<N: Eprint + Clock>(&mut self, net: &N, fault: &io::Error)
         ensures { (self.new.bound ≡ self.old.bound) × (self.new.accepted ≡ self.old.accepted) }
     {
@@ -138,8 +140,9 @@ impl Accepting {
     }
 }
 
-/// Accepts pending connections, at most `MOST_AT_ONCE`, and returns how many. Each of them waits, is ready or has ended. If accepting
-/// fails for good, the error is noted and no more are accepted: the existing connections are served.
+/// Accepts pending connections, at most `MOST_AT_ONCE`, and returns how many. Afterwards each of them is waiting or
+/// ready in the reactor, or has ended. If accepting fails for good, the error is noted and no more connections are
+/// accepted, but the existing ones are served.
 #[tactic(auto, using(crate::proofs::Accounting::accept_rules))]
 pub(crate) fn accept_some<N: Net + Clock + Eprint + Wait + Copy + Drop>(
     alloc: Global,
@@ -178,8 +181,8 @@ fn accept_one<N: Net + Clock + Eprint + Wait + Copy + Drop>(
     stream_of(net, listener.accept(), reactor, accepting)
 }
 
-/// Whether a connection may be accepted. If there is no room, this closes one that waits. If none waits, it returns false only while
-/// others are ready.
+/// Whether a connection may be accepted. If there is no room, closes a waiting connection to make room. If there is no
+/// waiting connection to close, one more connection may be accepted only if no connection is ready.
 #[tactic(auto, using(crate::proofs::Accounting::same))]
 fn may_accept<S: Read + Write + OpenStream + AsRawFd + Drop>(
     reactor: &mut Reactor<S>,
@@ -267,7 +270,8 @@ fn note_shortage<N: Net + Clock + Eprint + Wait + Copy + Drop>(
     }
 }
 
-/// Takes in the stream of a connection that was accepted. A stream that can't be set up is dropped, and not counted as accepted.
+/// Takes in the stream of a connection that was accepted. A stream that can't be set up is dropped, and not counted as
+/// accepted.
 fn take_in<N: Net + Clock + Eprint + Wait + Copy + Drop>(
     alloc: Global,
     net: N,
@@ -318,8 +322,8 @@ fn note_if_accepted_all<S: Read + Write + OpenStream + AsRawFd + Drop>(
     }
 }
 
-/// Listens at a port: on IPv6 and IPv4 if one IPv6 socket does both, otherwise on IPv4. It does both if no IPv4 socket can be bound at
-/// the same port.
+/// Listens at a port: on IPv6 and IPv4 if one IPv6 socket serves both, otherwise on IPv4. The IPv6 socket serves both
+/// if no IPv4 socket can be bound at the same port as well.
 pub(crate) fn bind_all<N: Net>(net: &N, port: u16) -> io::Result<N::Listener> {
     let Ok(both) = TcpListener::bind(net, (Ipv6Addr::UNSPECIFIED, port)) else {
         return bind_four(net, port);
@@ -356,7 +360,7 @@ pub(crate) fn log_open<N: Eprint, L: OpenListener>(net: &N, listener: &L, log: &
     }
 }
 
-/// Opens a listener at a port, which is then one more of `ports`.
+/// Opens a listener at a port, with a reactor for its connections, and appends the port to `ports`.
 ///
 /// # Errors
 /// The port can't be listened at, or out of memory. `ports` is unchanged.

@@ -1,12 +1,12 @@
-//! The log on the error stream: a line for each change. No line has a token or a secret. A line that can't be written at once is
-//! dropped, so that nothing waits for the reader of the log.
+//! The log on the error stream: a line for each change of state. The lines of this crate contain no token and no
+//! secret. A line that can't be written at once is dropped, so that nothing waits for the reader of the log.
 ghost use Rattle.std.specs.Prelude.{◌≡◌, ◌==◌, not};
 
 use libc::net::{POLLOUT, poll};
 use libc::types::pollfd;
 use std::fmt::Display;
 
-/// That all is well.
+/// The logged state that means that all is well.
 pub(crate) const WELL: u16 = 0;
 
 /// The descriptor of the error stream.
@@ -19,7 +19,7 @@ pub(crate) struct Logged {
 }
 
 impl Logged {
-    /// All is well.
+    /// The state before anything was logged: all is well.
     pub fn new() -> Self
         ensures { result.last ≡ WELL }
     {
@@ -37,7 +37,8 @@ impl Logged {
     }
 }
 
-/// Whether the error stream takes a line without blocking. A pipe does while a page of it is free, which is more than a line.
+/// Whether the error stream takes a line without blocking. A pipe is ready for writing while at least one page of it is
+/// free, and a line is shorter than a page.
 fn takes_line() -> bool {
     let mut asked = [pollfd {
         fd: ERRORS,

@@ -1,4 +1,4 @@
-//! A peer over the network.
+//! A peer over the network: the client side of a connection to a server, with a time limit for each exchange.
 ghost use Rattle.std.specs.Prelude.{◌≡◌, ◌<◌, ◌≤◌, length, IfOk, None};
 ghost use Rattle.std.specs.Io.{ReadsAtMost, WritesAtMost};
 ghost use Rattle.std.specs.Io.KnownBytes.{ReadConsumes, WriteAppends};
@@ -16,9 +16,10 @@ use std::net::{Net, OpenStream, TcpStream, ToSocketAddrs};
 use std::time::{Clock, Duration};
 use unl_base::{Failed, Link, Peer, Sink, Source};
 
-/// A peer over the network. Each connect makes a new connection, to the first of its addresses that accepts one. An exchange takes 30
-/// seconds at most, from the connect to the last byte. After one that used them up, connects fail at once for 5 seconds, so that
-/// callers that ask a hanging server one after another wait for it once.
+/// The client side of a connection to a server. Each connect makes a new connection, to the first address of the server
+/// that accepts one. An exchange takes 30 seconds at most, from the connect to the last byte; only the time of looking
+/// up the server's name is not bounded. After an exchange that used up its time, connects fail at once for 5 seconds:
+/// of several callers that ask a hanging server in turn, only the first one waits.
 #[derive(Drop)]
 pub struct RealPeer<N: Net + Clock + Eprint + Drop, A: ToSocketAddrs + Display> {
     net: N,

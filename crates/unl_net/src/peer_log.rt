@@ -19,7 +19,7 @@ pub(crate) struct PeerLog<A: ToSocketAddrs + Display> {
 }
 
 impl<A: ToSocketAddrs + Display> PeerLog<A> {
-    /// The log of a peer of which nothing was logged.
+    /// The log of the peer at this address, before anything was logged.
     pub fn new(address: A) -> Self {
         PeerLog {
             address,
@@ -51,18 +51,20 @@ impl<A: ToSocketAddrs + Display> PeerLog<A> {
         self.statuses.note_connection();
     }
 
-    /// Notes that a piece of a request is written. Logs that the exchange before it has no reply, if that is news.
+    /// Notes that a piece of a request is written. If the last reply to this kind of request was a feed, the new
+    /// request shows whether this program accepted the feed: it then has the feed's tag. Logs that if it has changed.
     pub fn note_written<E: Eprint>(&mut self, to: &E, piece: &[u8]) {
         let status = self.statuses.note_written(piece);
         self.log_status(to, status);
     }
 
-    /// Notes the bytes of a read. Logs the status of their reply, if it is news.
+    /// Notes the bytes of a read (none if the read failed). Logs the status of the reply, if it has changed.
     pub fn note_read<E: Eprint>(&mut self, to: &E, bytes: &[u8]) {
         let status = self.statuses.note_read(bytes);
         self.log_status(to, status);
     }
 
+    /// Logs a status of the current kind of request, if there is one to be logged.
     fn log_status<E: Eprint>(&mut self, to: &E, status: Option<LoggedStatus>) {
         if let Some(status) = status {
             let address = &self.address;

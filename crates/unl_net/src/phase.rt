@@ -10,7 +10,7 @@ pub(crate) enum Phase {
     Idle,
     /// The rest of a request.
     Receiving,
-    /// A link: a whole request was received, or bytes that are refused.
+    /// A link to serve it: a whole request was received, or bytes that are refused.
     Ready,
     /// The client, to take the rest of an answer.
     Sending,
@@ -75,7 +75,8 @@ impl Phase {
         }
     }
 
-    /// For how many seconds a connection may be in this phase.
+    /// The maximum number of seconds that a connection may stay in this phase. It is 0 for the phases in which it
+    /// doesn't wait for its client.
     pub fn limit(self) -> u64
         ensures { result ≡ limit_of self }
     {

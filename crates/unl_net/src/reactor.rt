@@ -1,4 +1,5 @@
-//! The connections of a door that no link serves: waiting for their events, and what becomes of each.
+//! The connections of a door that no link serves. The reactor waits for their events, and decides after each event
+//! whether a connection keeps waiting, is ready for a link, or ends.
 ghost use Rattle.slab.specs.Slab.{slab_len};
 ghost use Rattle.std.specs.Prelude.{◌≡◌, ◌+◌, ◌++◌, [], true, IfNone, MatchOption, OnSome, option_to_list};
 ghost use Rattle.std.specs.VecDeque.{deque_len};
@@ -42,7 +43,8 @@ pub(crate) struct Reactor<S: Read + Write + OpenStream + AsRawFd + Drop> {
     alloc: Global,
     poll: Poll,
     events: Events,
-    /// The keys of the noted connections, which are handled next.
+    /// The keys of the connections to be handled next, called the noted ones: those that have events, those that may be
+    /// over their time limit, or those to be placed again.
     pub(crate) keys: Vec<usize>,
     pub shared: Arc<SharedWithLinks<S>>,
     pub(crate) waiting: Slab<Connection<S>>,
@@ -50,7 +52,7 @@ pub(crate) struct Reactor<S: Read + Write + OpenStream + AsRawFd + Drop> {
     room: [u8; PIECE],
     /// When `sweep` last ended the connections whose time is over.
     pub(crate) swept: Option<Instant>,
-    /// How many received bytes the connections that wait hold.
+    /// The number of received bytes in the buffers of all connections that wait.
     pub(crate) received: u64,
     /// The maximum number of connections, including those of links. It is exceeded only if links hold all of them.
     most: usize,
@@ -71,8 +73,8 @@ pub(crate) struct Reactor<S: Read + Write + OpenStream + AsRawFd + Drop> {
 }
 
 impl<S: Read + Write + OpenStream + AsRawFd + Drop> Reactor<S> {
-    /// The reactor of a listener, without connections. Once there are `most` connections, including those of links, one that waits is
-    /// closed before another is accepted.
+    /// Returns a reactor for a listener, without connections. `most` is the maximum number of connections, including
+    /// those of links: once it is reached, a connection that waits is closed before another is accepted.
     ///
     /// # Errors
     /// The error of the system, or out of memory.
@@ -164,8 +166,8 @@ impl<S: Read + Write + OpenStream + AsRawFd + Drop> Reactor<S> {
             .saturating_add(Arc::strong_count(&self.shared))
     }
 
-    /// Handles a lack of descriptors: closes some of the connections that wait, and allows fewer connections from now on. Returns false
-    /// if none waits that could be closed.
+    /// Handles a lack of file descriptors: closes some of the connections that wait, and allows fewer connections from
+    /// now on. Returns false if none waits that could be closed.
     pub fn note_shortage(&mut self) -> bool
         ensures accounts { Accounts 0 (slab_len self.old.waiting + deque_len self.old.ready) self.old.ended
             (slab_len self.new.waiting + deque_len self.new.ready) self.new.ended }
@@ -256,8 +258,8 @@ impl<S: Read + Write + OpenStream + AsRawFd + Drop> Reactor<S> {
         }
     }
 
-    /// Whether a connection in this phase is handed out as a link. Once as many were accepted as the bound allows, one without a whole
-    /// request is handed out too.
+    /// Whether a connection in this phase is handed out as a link. Once the door has accepted all connections that its
+    /// bound allows, a connection without a whole request is handed out too.
     fn is_for_a_link(&self, phase: Phase) -> bool {
         phase == Phase::Ready
             || (self.shared.has_accepted_all()
@@ -276,8 +278,9 @@ impl<S: Read + Write + OpenStream + AsRawFd + Drop> Reactor<S> {
         }
     }
 
-    /// Drops a connection for a reason that holds for it, and counts it as ended. If the door closes with its last link and this is the
-    /// last connection, a link gets it instead: the door can close only with a link that it hands out.
+    /// Drops a connection that may end for this reason, and counts it as ended. If the door closes with its last link
+    /// and this is the last connection, it is made ready for a link instead: the door closes only when it hands out a
+    /// link.
     #[tactic(auto, using(crate::proofs::Accounting::ended))]
     pub(crate) fn finish(&mut self, connection: Connection<S>, reason: EndReason)
         requires { MayEnd reason (phase_of (facts_of connection.received connection.to_send connection.closing connection.ended))
@@ -296,7 +299,7 @@ impl<S: Read + Write + OpenStream + AsRawFd + Drop> Reactor<S> {
         self.ended = self.ended.saturating_add(1);
     }
 
-    /// Makes the last connection ready for a link, which finds nothing to read.
+    /// Makes the last connection ready for a link. Its buffers are emptied, so that the link reads nothing and ends.
     #[tactic(auto, using(crate::proofs::Accounting::pushed, crate::proofs::Accounting::ended))]
     fn serve_last(&mut self, connection: Connection<S>)
         ensures accounts { Accounts 1 (slab_len self.old.waiting + deque_len self.old.ready) self.old.ended
@@ -313,7 +316,7 @@ impl<S: Read + Write + OpenStream + AsRawFd + Drop> Reactor<S> {
         }
     }
 
-    /// Lets a connection wait for its client.
+    /// Adds a connection to those that wait for their clients. If an allocation fails, it is cut off.
     #[tactic(auto, using(crate::proofs::Accounting::waits, crate::proofs::Accounting::same))]
     fn wait_for(&mut self, connection: Connection<S>)
         ensures accounts { Accounts 1 (slab_len self.old.waiting + deque_len self.old.ready) self.old.ended
@@ -405,7 +408,7 @@ impl<S: Read + Write + OpenStream + AsRawFd + Drop> Reactor<S> {
         }
     }
 
-    /// The noted key at this index.
+    /// The key at this index of the noted keys, if there is one.
     pub(crate) fn key(&self, at: usize) -> Option<usize> {
         self.keys.as_slice().get(at).copied()
     }

@@ -1,11 +1,12 @@
-//! What a door logs once a minute at most, and what it counts of its links and connections.
+//! The counts of a door, and when it logs them. The connections that were cut off and the answers with a status of 500
+//! or more are logged once a minute at most.
 ghost use Rattle.std.specs.Prelude.{◌≡◌, ◌+◌, ◌-◌, ◌^◌, min};
 
 use crate::cuts::{Cuts, EachMinute};
 use crate::log::Log;
 use std::time::Instant;
 
-/// What a door logged last, and what it counts.
+/// When a door last logged its counts, and what it has counted.
 #[derive(Clone, Copy)]
 pub(crate) struct Reports {
     cuts: EachMinute,
@@ -52,7 +53,8 @@ impl Reports {
         }
     }
 
-    /// Counts `count` more answers with a status of 500 or more, and logs how many there were since the last such line, if that is due.
+    /// Counts `count` more answers with a status of 500 or more. Logs how many there were since the last such line, if
+    /// that is due.
     pub fn log_server_errors<E: Eprint>(
         &mut self,
         to: &E,

@@ -1,4 +1,4 @@
-//! What is logged of a request, and the kinds of requests.
+//! The part of a request that is logged, and the kinds of requests that the log distinguishes.
 ghost use Rattle.std.specs.Prelude.{◌≡◌, ◌≤◌, ◌&&◌, ◌||◌, All, length, nat_eq, not, take, true};
 ghost use Rattle.unl_net.specs.LoggedText.{is_loggable, longest_prefix, logged_text};
 
@@ -14,8 +14,8 @@ fn is_loggable(byte: u8) -> bool
     byte >= b' ' && byte <= b'~' && byte != b'?'
 }
 
-/// Whether the next byte of a request is logged too: it may be, and is no second space. `has_method`: the bytes before it have a
-/// space, so that the method has ended.
+/// Whether the next byte of a request is logged too: the byte may be logged, and is no second space. `has_method`: a
+/// space is among the bytes before it, so that the method has ended.
 fn is_logged_next(has_method: bool, byte: u8) -> bool
     ensures { result ≡ (is_loggable byte && not (has_method && nat_eq byte 32)) }
 {
@@ -45,7 +45,8 @@ fn logged_count(prefix: &[u8]) -> usize
     prefix.len()
 }
 
-/// How many bytes of a request are logged: its method and its path, and nothing of a query or a field.
+/// How many bytes of a request are logged: its method and its path, 64 bytes at most, and nothing of a query or a
+/// field.
 #[tactic(auto, using(crate::proofs::LoggedText::cut_short, crate::proofs::LoggedText::cut_logged, crate::proofs::LoggedText::same_text))]
 fn logged_len(request: &[u8]) -> usize
     ensures exact { take result request.now ≡ logged_text request.now }
@@ -56,14 +57,14 @@ fn logged_len(request: &[u8]) -> usize
     logged_count(&request[..MOST_LOGGED.min(request.len())])
 }
 
-/// A kind of request: what is logged of it, and a key that identifies the kind. Requests with different tokens are of different
-/// kinds, since their replies may differ.
+/// A kind of request: the text that is logged for it, and a key that identifies the kind. Requests with different
+/// tokens are of different kinds, since their replies may differ.
 #[derive(Clone, Copy)]
 pub(crate) struct RequestKind {
     text: [u8; MOST_LOGGED],
     len: usize,
     pub key: u64,
-    /// Whether it asks for a feed of flags.
+    /// Whether it asks for a feed of flags: its path begins with `/api/client/`.
     pub is_feed: bool,
     /// Whether it has the tag of an earlier reply (`If-None-Match`).
     pub has_tag: bool,
@@ -86,7 +87,7 @@ impl RequestKind {
         }
     }
 
-    /// What is logged of it.
+    /// The text that is logged for the request.
     pub fn as_str(&self) -> &str
         ensures { result.now ≡ take self.now.len self.now.text }
     {

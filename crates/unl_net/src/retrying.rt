@@ -19,7 +19,7 @@ fn is_interrupted<T>(tried: &io::Result<T>) -> bool
     }
 }
 
-/// Reads once, again after signals.
+/// Reads once. A read that a signal interrupted is tried again.
 #[tactic(auto, using(crate::proofs::Trying::stays, crate::proofs::Trying::read_then, crate::proofs::Trying::read_failed))]
 pub(crate) fn read_once<R: Read>(reader: &mut R, room: &mut [u8]) -> io::Result<usize>
     ensures bound { ReadsAtMost result room.new }
@@ -34,7 +34,7 @@ pub(crate) fn read_once<R: Read>(reader: &mut R, room: &mut [u8]) -> io::Result<
     Err(io::Error::from(ErrorKind::Interrupted))
 }
 
-/// Writes once, again after signals.
+/// Writes once. A write that a signal interrupted is tried again.
 #[tactic(auto, using(crate::proofs::Trying::stays, crate::proofs::Trying::write_then, crate::proofs::Trying::write_failed))]
 pub(crate) fn write_once<W: Write>(writer: &mut W, piece: &[u8]) -> io::Result<usize>
     ensures bound { WritesAtMost result piece.now }

@@ -16,10 +16,11 @@ use std::time::Clock;
 /// The maximum number of waits of 10 milliseconds in a read or a write: 30 seconds in all.
 const MOST_WAITS: u64 = 3_000;
 
-/// How many of these waits a read makes at least, also while other links wait for a worker.
+/// The minimum number of these waits in a read, even while other links wait for a worker.
 const FEW_WAITS: u64 = 10;
 
-/// How many times a link waits for a further request if the thread that accepts serves it: the door waits meanwhile.
+/// The maximum number of waits of 10 milliseconds for a further request if the thread that accepts also serves the
+/// link: the door accepts nothing meanwhile.
 const MOST_WAITS_ALONE: u64 = 64;
 
 /// The maximum number of pieces that are read of an unfinished request.
@@ -40,15 +41,15 @@ enum LinkStage {
     Failed,
 }
 
-/// A connection while a link serves it. The link reads whole requests only, and ends once they are answered and no further one is
-/// there.
+/// A connection while a link serves it. The link reads whole requests only. It ends once they are answered and no
+/// further one is there in time.
 pub(crate) struct ServedConnection<S: Read + Write + OpenStream + Drop, C: Clock + Wait + Drop> {
     connection: Connection<S>,
     shared: Arc<SharedWithLinks<S>>,
     alloc: Global,
     clock: C,
     stage: LinkStage,
-    /// How many times it may still wait for a further request, if the thread that serves it is the one that accepts.
+    /// How many times the link may still wait for a further request, if the thread that accepts also serves it.
     waits_left: u64,
 }
 
@@ -93,7 +94,7 @@ impl<S: Read + Write + OpenStream + Drop, C: Clock + Wait + Drop> ServedConnecti
     /// Writes once.
     ///
     /// # Errors
-    /// The error of the stream, or no room came in time.
+    /// The error of the stream, or the stream took no byte in time.
     pub fn write(&mut self, piece: &[u8]) -> io::Result<usize>
         ensures fits { IfOk result (λ n. n ≤ length piece.now) }
         ensures appends { WriteAppends (outgoing (S.contents self.old.connection.stream) self.old.connection.to_send)
@@ -106,7 +107,7 @@ impl<S: Read + Write + OpenStream + Drop, C: Clock + Wait + Drop> ServedConnecti
         written
     }
 
-    /// Whether there are more links than workers, so that a link waits for one.
+    /// Whether there are more links than workers, so that some link waits for a worker.
     fn is_crowded(&self) -> bool {
         let links = Arc::strong_count(&self.shared).saturating_sub(1);
         links > self.shared.workers as usize
@@ -137,7 +138,8 @@ impl<S: Read + Write + OpenStream + Drop, C: Clock + Wait + Drop> ServedConnecti
         Ok(self.connection.received.read_opened(room))
     }
 
-    /// Whether there is something to read. If all requests are answered, this opens the next one.
+    /// Whether there is something to read. If all requests are answered, this opens the next one, so that its bytes may
+    /// be read.
     ///
     /// # Errors
     /// The error of the stream, or out of memory.
@@ -166,7 +168,8 @@ impl<S: Read + Write + OpenStream + Drop, C: Clock + Wait + Drop> ServedConnecti
         }
     }
 
-    /// Opens the next request, and returns whether there is one.
+    /// Opens the next request once it is whole, and returns whether there is one. Opened bytes are those that the link
+    /// may read.
     ///
     /// # Errors
     /// The error of the stream, or out of memory.
@@ -195,7 +198,8 @@ impl<S: Read + Write + OpenStream + Drop, C: Clock + Wait + Drop> ServedConnecti
         Ok(false)
     }
 
-    /// Reads a piece that is there, or comes in time if the link may wait. Returns whether there was one.
+    /// Reads from the stream once, and appends the bytes to the received ones. It waits for bytes only if the link may
+    /// wait. Returns false if no byte came in time.
     ///
     /// # Errors
     /// The error of the stream, or out of memory.
@@ -209,7 +213,7 @@ impl<S: Read + Write + OpenStream + Drop, C: Clock + Wait + Drop> ServedConnecti
         self.connection.receive(&mut room)
     }
 
-    /// Sets the stream to blocking for a moment if the link may wait, otherwise to non-blocking.
+    /// Sets the stream to blocking (with a short timeout) if the link may wait, and otherwise to non-blocking.
     fn set_pace(&mut self) -> io::Result<()>
         ensures received { self.new.connection.received ≡ self.old.connection.received }
         ensures stream { self.new.connection.stream ≡ self.old.connection.stream }
@@ -282,7 +286,8 @@ impl<S: Read + Write + OpenStream + Drop, C: Clock + Wait + Drop> ServedConnecti
         self.hold(piece, sent)
     }
 
-    /// Notes the first piece of an answer.
+    /// Notes that a piece of an answer is sent. If it is the first one and has a status of 500 or more, the answer is
+    /// counted.
     fn note_answer(&mut self, piece: &[u8])
         ensures { self.new.connection ≡ self.old.connection }
     {
@@ -347,10 +352,11 @@ impl<S: Read + Write + OpenStream + Drop, C: Clock + Wait + Drop> ServedConnecti
         false
     }
 
-    /// Sends a piece after the bytes that are kept. While other links wait for a worker, this fails.
+    /// Sends the bytes that are kept, then the piece. Returns how many bytes of the piece are sent.
     ///
     /// # Errors
-    /// The error of the stream, or no room came in time.
+    /// The error of the stream; `TimedOut` if the stream took no byte of the piece in time, or if other links wait for
+    /// a worker.
     #[tactic(auto, using(crate::proofs::Moving::write_rules))]
     fn write_waiting(&mut self, piece: &[u8]) -> io::Result<usize>
         ensures fits { IfOk result (λ n. n ≤ length piece.now) }
@@ -402,7 +408,7 @@ fn is_server_error(answer: &[u8]) -> bool {
     answer.starts_with(b"HTTP/1.1 5")
 }
 
-/// What becomes of a connection whose link ends.
+/// What happens to a connection when its link ends.
 #[derive(Clone, Copy, PartialEq)]
 enum Fate {
     /// The connection goes back to the door, which waits for its next request.
@@ -413,8 +419,8 @@ enum Fate {
     ClosedNow,
 }
 
-/// What becomes of a connection whose link ends at this stage. `owes`: bytes are still to be sent; `unread`: the client may have sent
-/// bytes that no link has read.
+/// What happens to a connection when its link ends at this stage. `owes`: bytes are still to be sent; `unread`: the
+/// client may have sent bytes that no link has read.
 fn fate_of(stage: LinkStage, owes: bool, unread: bool) -> Fate
     ensures { result ≡ fate_of stage owes unread }
 {

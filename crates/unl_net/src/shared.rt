@@ -1,4 +1,4 @@
-//! What a door shares with its links.
+//! What a door shares with its links. A link is a connection that the door handed out to be served.
 
 use crate::connection::Connection;
 use mio::Waker;
@@ -20,7 +20,8 @@ pub(crate) struct SharedWithLinks<S: Read + Write + OpenStream + Drop> {
     waker: Waker,
     /// Whether the door waits for events and must be woken.
     sleeps: AtomicBool,
-    /// Whether as many connections were accepted as the bound allows: each is then served to its end by one link.
+    /// Whether the door has accepted its maximum number of connections. Each link then serves its connection to the
+    /// end, and does not return it in between.
     has_accepted_all: AtomicBool,
     /// Whether answers may be kept to be sent later.
     keeps_answers: AtomicBool,
@@ -28,14 +29,14 @@ pub(crate) struct SharedWithLinks<S: Read + Write + OpenStream + Drop> {
     unsent: AtomicU64,
     /// How many answers had a status of 500 or more.
     server_errors: AtomicU64,
-    /// How many connections were closed as links returned them, because an allocation failed.
+    /// How many connections were closed because an allocation failed when a link returned them.
     lost: AtomicU64,
-    /// How many links are served at once by threads other than the one that accepts: 0 if that one serves them.
+    /// How many worker threads serve links at the same time, or 0 if the thread that accepts serves them.
     pub workers: u32,
 }
 
 impl<S: Read + Write + OpenStream + Drop> SharedWithLinks<S> {
-    /// What a door without connections shares.
+    /// Creates the shared state of a door without connections.
     pub fn new(alloc: Global, waker: Waker, workers: u32) -> Result<Self, AllocError> {
         Ok(SharedWithLinks {
             returned: Mutex::new(VecDeque::with_capacity(alloc, 256)?),
@@ -75,22 +76,23 @@ impl<S: Read + Write + OpenStream + Drop> SharedWithLinks<S> {
         self.sleeps.store(sleeps, Ordering::SeqCst);
     }
 
-    /// Notes that as many connections were accepted as the bound allows.
+    /// Notes that the door has accepted its maximum number of connections.
     pub fn note_accepted_all(&self) {
         self.has_accepted_all.store(true, Ordering::SeqCst);
     }
 
-    /// Whether as many connections were accepted as the bound allows.
+    /// Whether the door has accepted its maximum number of connections.
     pub fn has_accepted_all(&self) -> bool {
         self.has_accepted_all.load(Ordering::SeqCst)
     }
 
-    /// Notes that no more answers may be kept to be sent later: the door can't wait for their clients.
+    /// Notes that no more answers may be kept to be sent later, because the door can no longer wait until a client is
+    /// ready to receive.
     pub fn keep_no_answers(&self) {
         self.keeps_answers.store(false, Ordering::SeqCst);
     }
 
-    /// Whether `count` more bytes may be kept. If so, they are counted.
+    /// Whether `count` more bytes of answers may be kept. If so, they are counted as kept.
     pub fn may_hold(&self, count: usize) -> bool {
         if !self.keeps_answers.load(Ordering::SeqCst) {
             return false;
@@ -120,7 +122,8 @@ impl<S: Read + Write + OpenStream + Drop> SharedWithLinks<S> {
         self.server_errors.swap(0, Ordering::SeqCst)
     }
 
-    /// How many connections were closed as links returned them, since the last call of this function.
+    /// How many connections were closed because an allocation failed when a link returned them, since the last call of
+    /// this function.
     pub fn take_lost(&self) -> u64 {
         self.lost.swap(0, Ordering::SeqCst)
     }

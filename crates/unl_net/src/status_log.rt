@@ -10,23 +10,25 @@ use crate::request_kind::RequestKind;
 use std::fmt;
 use std::fmt::Display;
 
-/// How many kinds of requests are distinguished: more than are used, which are one for the book and two for each of eight tokens.
+/// How many kinds of requests the log distinguishes. The program uses fewer: one for the token book
+/// (`POST /edge/validate`), and two for each of at most eight tokens.
 const MOST_KINDS: usize = 32;
 
 /// The logged status of a reply without a status.
 const NO_ANSWER: u16 = 1;
 
-/// The logged status of a feed with status 200 that was not taken: the next request for it has no tag.
+/// The logged status of a feed that came with status 200 but was not taken, that is, this program did not accept it:
+/// the next request for the feed has no tag (`If-None-Match`).
 const NOT_TAKEN: u16 = 1_000;
 
-/// Whether a byte is a digit.
+/// Whether a byte is an ASCII digit.
 fn is_digit(byte: u8) -> bool
     ensures { result ≡ is_digit byte }
 {
     byte >= b'0' && byte <= b'9'
 }
 
-/// The number with these three digits.
+/// The number with these three ASCII digits. `None` if one of them is no digit.
 fn digits_of(first: u8, second: u8, third: u8) -> Option<u16>
     ensures { result ≡ digits_of first second third }
 {
@@ -38,7 +40,7 @@ fn digits_of(first: u8, second: u8, third: u8) -> Option<u16>
     Some(hundreds * 100 + tens * 10 + u16::from(third - b'0'))
 }
 
-/// The status of a reply, of which these are the first bytes (RFC 9112, section 4).
+/// The status of a reply that begins with these bytes (RFC 9112, section 4). `None` if they have no status.
 fn status_of(reply: &[u8]) -> Option<u16>
     ensures { result ≡ status_of reply.now }
 {
@@ -136,8 +138,9 @@ impl StatusLog {
         self.stage = ExchangeStage::Fresh;
     }
 
-    /// Notes a write. The first one on a connection has the request's first line, its token and its tag. Returns what the tag shows
-    /// of the reply before it, if that is news.
+    /// Notes a write. The first write on a connection has the request's first line, its token and its tag. If the last
+    /// reply to this kind of request was a feed, a tag in the request shows that the feed was taken. Returns the status
+    /// to log for that feed, if it has changed.
     pub fn note_written(&mut self, piece: &[u8]) -> Option<LoggedStatus>
         ensures { NotesWritten self.old piece.now result self.new }
     {
@@ -149,7 +152,8 @@ impl StatusLog {
         note_tag(&mut self.known, self.kind.key, self.kind.has_tag)
     }
 
-    /// Notes a read, with no bytes if it failed. The first one after a request has the status. Returns the status if it is news.
+    /// Notes a read, with no bytes if it failed. The first read after a request has the status. Returns the status if
+    /// its class has changed.
     pub fn note_read(&mut self, bytes: &[u8]) -> Option<LoggedStatus>
         ensures { NotesRead self.old bytes.now result self.new }
     {
@@ -166,7 +170,7 @@ impl StatusLog {
         }
     }
 
-    /// What is logged of the request.
+    /// The part of the current request that is logged.
     pub fn kind(&self) -> &str
         ensures exact { result.now ≡ take self.now.kind.len self.now.kind.text }
         ensures logged { All (λ byte. is_loggable byte ≡ true) result.now }
@@ -175,7 +179,8 @@ impl StatusLog {
     }
 }
 
-/// The index of the entry for a kind of request: the first entry that is its own or free. `None` if other kinds have all entries.
+/// The index of the entry for a kind of request: the first entry that is its own or free. `None` if other kinds have
+/// all entries.
 fn place_of(known: &[Known; MOST_KINDS], key: u64) -> Option<usize>
     ensures place { result ≡ place_of key known.now }
     ensures inside { IfSome result (λ at. at < 32) }
@@ -185,7 +190,8 @@ fn place_of(known: &[Known; MOST_KINDS], key: u64) -> Option<usize>
         .position(|entry| entry.key == key || entry.key == 0)
 }
 
-/// Notes the class of a reply to a kind, and returns whether it is to be logged. Kinds for which there is no entry are not logged.
+/// Notes the class of a reply to a kind of request, and returns whether it is to be logged. Kinds for which there is no
+/// entry are not logged.
 fn is_news(known: &mut [Known; MOST_KINDS], key: u64, now: u16, fed: bool) -> bool
     ensures noted { known.new ≡ after_reply key now fed known.old }
     ensures news { result ≡ is_news key now fed known.old }
@@ -209,16 +215,16 @@ fn is_fed(is_feed: bool, status: u16) -> bool
     is_feed && status == 200
 }
 
-/// The class to note for a reply with the class `now`. After a feed that was not taken, a further feed does not change the class: only
-/// the next request shows whether that one was taken.
+/// The class to note for a reply with the class `now`. If the last feed was not taken and this reply is a feed (`fed`),
+/// the class stays: only the next request shows whether this feed is taken.
 fn next_class(last: u16, now: u16, fed: bool) -> u16
     ensures { result ≡ next_class last now fed }
 {
     if fed && last == NOT_TAKEN { last } else { now }
 }
 
-/// Notes a request with or without a tag: if the last reply was a feed, the tag shows that it was taken. Returns what is to be logged
-/// then, if it is news.
+/// Notes a request with or without a tag: if the last reply was a feed, the tag shows that it was taken. Returns the
+/// status to be logged, if it is news.
 fn note_tag(known: &mut [Known; MOST_KINDS], key: u64, has_tag: bool) -> Option<LoggedStatus>
     ensures noted { known.new ≡ after_request key has_tag known.old }
     ensures news { result ≡ logged_request key has_tag known.old }
