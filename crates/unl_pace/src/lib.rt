@@ -1,4 +1,5 @@
-//! A pace with exponential backoff up to an interval, for a job whose first turn may come too early.
+//! A pace whose waits double up to a maximum (exponential backoff), for a job whose first turns may fail because the
+//! server that it polls has not started yet.
 #![tactic(auto)]
 
 ghost use Rattle.std.specs.Prelude.{◌≡◌};
@@ -9,7 +10,7 @@ use std::time::{Clock, Duration};
 use unl_base::Pace;
 
 /// A pace that sleeps before each turn. The first sleep has a given length, and each further one is twice as long as the
-/// one before, but never longer than the interval. The pace has no last turn. Without an interval it has no turn at all.
+/// one before, but never longer than the interval. The turns never end. Without an interval there is no turn at all.
 #[derive(Drop)]
 pub struct StartPace<C: Clock + Drop> {
     clock: C,
