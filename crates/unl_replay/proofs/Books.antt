@@ -8,12 +8,12 @@ use Rattle.unl_replay.specs.Replay.{DeskEffect, put_tokens, same_line, tokens_li
 abbrev either : ℕ → List Token → DeskState → DeskEffect
 either k tokens d = record { text = tokens_line k (with_book tokens d).board.generation (with_book tokens d).front; desk = with_book tokens d }
 
--- the book is the current one
+-- the effect if the book equals the current one
 pub kept : (k : ℕ) (tokens : List Token) (d : DeskState) → tokens ≡ d.board.book → put_tokens k tokens d ≡ record { text = same_line k; desk = d }
 kept k tokens d same =
     ap (λ b. cond b (let r : DeskEffect = record { text = same_line k; desk = d } in r) (either k tokens d)) (same_book-refl tokens d.board.book same)
 
--- the book is another one
+-- the effect if the book differs from the current one
 pub taken : (k : ℕ) (tokens : List Token) (d : DeskState) → tokens ≢ d.board.book
     → put_tokens k tokens d ≡ record { text = tokens_line k (with_book tokens d).board.generation (with_book tokens d).front; desk = with_book tokens d }
 taken k tokens d other =

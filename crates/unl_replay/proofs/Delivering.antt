@@ -1,4 +1,4 @@
--- The lines of a replay that were answered, and what holds along them.
+-- Properties of the answered lines of a replay.
 use Rattle.std.proofs.Common.{◌≡◌, ℕ, ◌+◌, ◌≤◌, Bool, true, false, cond, List, [], ◌∷◌, ◌++◌, length, take, Option, Result, Ok, Err, IfOk, refl, sym, ap, ◌∙◌, subst, arith, append-nil}
 use Rattle.std.specs.List.{AllByRecursion, count_by}
 use Rattle.std.specs.Prelude.{codes, ok_or}
@@ -61,7 +61,7 @@ read_answered : (k : ℕ) (b : ReplayState) (r : LineReading Data) → IfOk (and
 read_answered k b (Ok line) = object_answered k b line (documented (required any_text field.Op line))
 read_answered k b (Err e) = tt
 
--- the answer to an ask is that of its own request
+-- the effect of a line with an ask is the answer to its request
 answered : (k : ℕ) (b : ReplayState) (line : List ℕ) → IfOk (asked line) (λ ask. answer_read k b line ≡ Ok (put_ask k b ask))
 unfolding asked answer_read
 answered k b line = read_answered k b (ok_or (object_in line) (Document NotJson))
@@ -76,7 +76,8 @@ if_both : {A E : Type 0} (r : Result A E) (O P Q : A → Type 0) → ((x : A) �
 if_both (Ok x) O P Q step one two = step x one two
 if_both (Err e) O P Q step one two = tt
 
--- after a line with a batch that was sent from histories, each slot represents its history
+-- after a line with a batch that was sent from the histories, each version on the desk represents the history of its
+-- environment
 leads_on : (histories : Histories) (b : ReplayState) → AreLines histories → DeskRepresents histories b.desk
     → Leads b.desk (IsSentFromHistory histories) (DeskRepresents histories)
 leads_on histories b are all = record {
@@ -110,7 +111,7 @@ delivered bytes histories are sent = asks_from histories 1 empty_replay (lines b
 
 -- ---- answered lines
 
--- what holds after a line that was answered
+-- if `P` holds after any result of a line that is not refused, it holds after a line that was answered
 after_line : (P : ReplayState → Type 0) (k : ℕ) (b after : ReplayState) (line text : List ℕ)
     → IfOk (take_line line_answer k b line) (λ (taken : Taken ReplayState). P taken.desk)
     → take_line line_answer k b line ≡ Ok (record { text = text; desk = after }) → P after
@@ -127,7 +128,7 @@ same_effect : (x y : LineEffect) (r : LineReading LineEffect) → r ≡ Ok x →
 same_effect x y r one two =
     ap (effect_or x) (subst (λ (o : LineReading LineEffect). refusing refusal_text o ≡ Ok y) one two)
 
--- an ask that was answered
+-- an ask that was answered shows one revision
 answers_revision : (histories : Histories) (one : ReplayedLine) → DeskRepresents histories one.before.desk
     → take_line line_answer one.number one.before one.line ≡ Ok (record { text = one.text; desk = one.after })
     → IfOk (asked one.line) (AnswersRevision histories one)
@@ -141,7 +142,7 @@ answers_revision histories one all is =
           (all_represented histories one.before.desk.board.slots one.before.desk.places all) shown;
     }) (answered one.number one.before one.line)
 
--- each ask among the lines
+-- each ask among the lines shows one revision
 revisions_from : (histories : Histories) (k : ℕ) (b : ReplayState) (ones : List ReplayedLine) → AreLines histories → DeskRepresents histories b.desk
     → AreReplayed k b ones → AllSentFrom histories ones → AllAnswerRevisions histories ones
 revisions_from histories k b [] are all replayed sent = tt
@@ -173,7 +174,7 @@ never_falls_from environment k b (one ∷ more) agrees replayed =
 
 -- ---- the answered lines of an input
 
--- an answered line, and those after it, if it isn't refused
+-- the list of answered lines, by the result of the first line; it is empty if that line is refused
 abbrev replayed_by : ℕ → ReplayState → List ℕ → LineResult ReplayState → (ReplayState → List ReplayedLine) → List ReplayedLine
 replayed_by k b line (Ok taken) rest = record { number = k; before = b; line = line; text = taken.text; after = taken.desk } ∷ rest taken.desk
 replayed_by k b line (Err cause) rest = []
@@ -187,7 +188,7 @@ replayed_from k b (line ∷ more) = replayed_by k b line (take_line line_answer 
 abbrev rest_of : ℕ → List (List ℕ) → ReplayState → List ReplayedLine
 rest_of k more after = replayed_from (k + 1) after more
 
--- they are the first lines
+-- the answered lines are the first of all lines
 are_first : (k : ℕ) (b : ReplayState) (ls : List (List ℕ)) → bytes_of (replayed_from k b ls) ≡ take (length (replayed_from k b ls)) ls
 are_first k b [] = refl
 are_first k b (line ∷ more) = by_result (take_line line_answer k b line) (λ after. are_first (k + 1) after more)
@@ -197,7 +198,7 @@ are_first k b (line ∷ more) = by_result (take_line line_answer k b line) (λ a
     by_result (Ok taken) others = ap (λ ls. line ∷ ls) (others taken.desk)
     by_result (Err cause) others = refl
 
--- they are no more than the lines
+-- there are no more answered lines than lines
 no_more : (k : ℕ) (b : ReplayState) (ls : List (List ℕ)) → length (replayed_from k b ls) ≤ length ls
 no_more k b [] = omega arith
 no_more k b (line ∷ more) = by_result (take_line line_answer k b line) (λ after. no_more (k + 1) after more)
@@ -207,7 +208,7 @@ no_more k b (line ∷ more) = by_result (take_line line_answer k b line) (λ aft
     by_result (Ok taken) others = omega (arith, others taken.desk)
     by_result (Err cause) others = omega arith
 
--- each was answered over the state that the line before it left
+-- each line was answered with the state that the line before it left
 are_replayed : (k : ℕ) (b : ReplayState) (ls : List (List ℕ)) → AreReplayed k b (replayed_from k b ls)
 are_replayed k b [] = tt
 are_replayed k b (line ∷ more) = by_result (take_line line_answer k b line) refl (λ after. are_replayed (k + 1) after more)
@@ -221,7 +222,7 @@ are_replayed k b (line ∷ more) = by_result (take_line line_answer k b line) re
 abbrev outcome_after : ℕ → List (List ℕ) → ReplayState → LinesOutcome ReplayState
 outcome_after k more after = take_from line_answer (k + 1) after more
 
--- they print the text
+-- the text of the outcome is the text of the answered lines
 same_text : (k : ℕ) (b : ReplayState) (ls : List (List ℕ)) → (take_from line_answer k b ls).text ≡ text_of (replayed_from k b ls)
 same_text k b [] = refl
 same_text k b (line ∷ more) = by_result (take_line line_answer k b line) (λ after. same_text (k + 1) after more)
@@ -231,7 +232,7 @@ same_text k b (line ∷ more) = by_result (take_line line_answer k b line) (λ a
     by_result (Ok taken) others = ap (λ t. taken.text ++ t) (others taken.desk)
     by_result (Err cause) others = refl
 
--- they are all lines, if none is refused
+-- if no line is refused, the answered lines are all lines
 all_of : (k : ℕ) (b : ReplayState) (ls : List (List ℕ)) → (take_from line_answer k b ls).ending ≡ done → bytes_of (replayed_from k b ls) ≡ ls
 all_of k b [] ends = refl
 all_of k b (line ∷ more) ends = by_result (take_line line_answer k b line) (λ after. all_of (k + 1) after more) ends
@@ -243,7 +244,7 @@ all_of k b (line ∷ more) ends = by_result (take_line line_answer k b line) (λ
 
 -- ---- the whole replay
 
--- the answered lines among the first `n` of some bytes
+-- if `ls` are the first lines of some bytes, the answered lines among them meet `AnswersLines`
 among_first : (bytes : List ℕ) (ls : List (List ℕ)) (end : Result Unit LinesFault) (old new : Option (List ℕ))
     → ((k : ℕ) → k ≤ length ls → take k ls ≡ take k (lines bytes)) → SendsAnswers end bytes (replayed_from 1 empty_replay ls) old new
     → AnswersLines bytes end old new
@@ -256,17 +257,17 @@ among_first bytes ls end old new are_first_lines sent = record {
   rising = λ environment. never_falls_from environment 1 empty_replay (replayed_from 1 empty_replay ls) tt (are_replayed 1 empty_replay ls);
 }
 
--- what holds of the bytes read, whatever follows them, if nothing does
+-- a statement about the bytes read and any that may follow holds of the bytes read, if none follow
 of_read : (P : List ℕ → Type 0) (left left_after : Option (List ℕ)) (holds : HoldsOfRead left left_after P) → P holds.read
 of_read P left left_after holds = subst P (append-nil holds.read) (holds.holds [] (λ end. refl))
 
--- the text with the cause of a refused line
+-- if the processing ended at a refused line, its number and cause exist, and the text with the cause was sent
 refused_end : (text : List ℕ) (ending : Ending) (old new : Option (List ℕ)) → IsRefused ending → Sends old (text ++ ending_text ending) new
     → (k : ℕ) × (cause : List ℕ) × Sends old (text ++ refused_text k cause) new
 refused_end text done old new is sends = absurd is
 refused_end text (refused k cause) old new is sends = (k, cause, sends)
 
--- a replay, by its answered lines
+-- the effect of a replay, with the list of its answered lines
 pub replays_lines : (end : Result Unit LinesFault) (left left_after old new : Option (List ℕ)) → TakesLines line_answer empty_replay end left left_after old new
     → Replays end left left_after old new
 replays_lines (Ok u) left left_after old new takes = record {

@@ -1,4 +1,4 @@
--- What a line does to the desk, by its op.
+-- The effect of a line on the desk, by its op.
 use Rattle.std.proofs.Common.{◌≡◌, ℕ, Bool, true, false, cond, List, Option, Some, None, Ok, Err, IfOk, refl, length, ltb}
 use Rattle.std.specs.Prelude.{codes, ok_or}
 use Rattle.std.specs.Str.{bytes_eq}
@@ -26,8 +26,8 @@ use Rattle.unl_replay.specs.Forms.{ask_of, batch_in, feed_in}
 use Rattle.unl_replay.specs.Refusals.{LineReading, and_then, documented, refusing, refusal_for_book, refusal_text}
 use Rattle.unl_replay.specs.Replay.{DeskEffect, LineEffect, after_verdict, answer_object, answer_op, answer_read, put_batch_at, ask_of_line, at_desk, batch_of_line, environment_in, feed_of_line, leaving_book, line_answer, metrics_of_line, number_in, put_ask, put_batch, put_metrics, put_tokens, same_line, tokens_line, tokens_of_line}
 
--- What a line may do to a desk `d`, if its batch is as `Brings` says: nothing, publish a book, or name an environment and take
--- a batch at its slot. `Holds` holds after each of these.
+-- The changes that a line may make to a desk `d`: none, a published book, or an environment that gets a slot and a batch at
+-- that slot. `Brings` holds for the batch, and `Holds` holds for the desk after each change.
 pub record Leads (d : DeskState) (Brings : Delivery → Type 0) (Holds : DeskState → Type 0) : Type 0 where
   pub same : Holds d
   pub book : (tokens : List Token) → Holds (with_book tokens d)
@@ -36,18 +36,18 @@ pub record Leads (d : DeskState) (Brings : Delivery → Type 0) (Holds : DeskSta
       → (verdict : Verdict) → verdict_of (place_of (installed_by (with_name environment d)) slot) batch ≡ verdict
       → Holds (after_verdict verdict slot batch (with_name environment d))
 
--- two continuations of one reading: what holds of the second holds of the first
+-- two readings that continue the same reading: if the second has `Q`, the first has `P`
 and_both : {A B C : Type 0} (r : LineReading A) (f : A → LineReading B) (g : A → LineReading C) (P : B → Type 0) (Q : C → Type 0)
     → ((x : A) → IfOk (g x) Q → IfOk (f x) P) → IfOk (and_then r g) Q → IfOk (and_then r f) P
 and_both (Ok x) f g P Q step premise = step x premise
 and_both (Err e) f g P Q step premise = tt
 
--- the continuation of a reading
+-- a reading that continues another has `P` if each of its continuations has
 and_more : {A B : Type 0} (r : LineReading A) (f : A → LineReading B) (P : B → Type 0) → ((x : A) → IfOk (f x) P) → IfOk (and_then r f) P
 and_more (Ok x) f P step = step x
 and_more (Err e) f P step = tt
 
--- `Holds` holds of the desk after a line
+-- `Holds` holds for the desk after a line that is not refused
 abbrev Leaves : (DeskState → Type 0) → LineReading DeskEffect → Type 0
 Leaves Holds r = IfOk r (λ answered. Holds answered.desk)
 
@@ -150,7 +150,7 @@ refused_leaves : (Holds : DeskState → Type 0) (r : LineReading LineEffect) →
 refused_leaves Holds (Ok effect) leaves = leaves
 refused_leaves Holds (Err e) leaves = tt
 
--- what holds of the desk after a line
+-- if each change that a line may make keeps `Holds`, it holds for the desk after the line
 pub line_leaves : (Brings : Delivery → Type 0) (Holds : DeskState → Type 0) (k : ℕ) (b : ReplayState) (line : List ℕ) → Leads b.desk Brings Holds
     → IfOk (brought b line) Brings → IfOk (take_line line_answer k b line) (λ taken. Holds taken.desk.desk)
 line_leaves Brings Holds k b line leads brings = decided (ltb most_lines k) (ltb longest_line (length line))

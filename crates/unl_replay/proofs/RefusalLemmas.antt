@@ -1,4 +1,4 @@
--- The refusals that faults become.
+-- Conversion of faults to refusals.
 use Rattle.std.proofs.Common.{◌≡◌, ◌≢◌, Result, Err, ap, ◌∙◌, sym, refl}
 use Rattle.unl_delta.specs.declared.fault.BadBatch.{BadBatch}
 use Rattle.unl_delta.specs.declared.fault.BadBatch.TheVariants as batch
@@ -15,7 +15,7 @@ use Rattle.unl_input.specs.declared.line.LineRefusal.TheVariants.{Cause}
 use Rattle.unl_input.specs.declared.line.LineRefusal.TheVariants as line
 use Rattle.unl_replay.specs.Refusals.{Causes, LineReading, refusal_text, refusing, refusal_for, refusal_for_batch, refusal_for_book}
 
--- a fault that is passed on, where one of the faults is out of memory
+-- a fault that is converted to a refusal; one of the faults is out of memory, for which nothing is claimed
 forwarded : {A E : Type 0} (becomes : E → Refusal) (memory : E) → becomes memory ≡ Memory → (e : E) (refusal : Refusal) (reading : Result A E)
     → refusal ≡ becomes e → (e ≢ memory → reading ≡ Err e) → refusal ≢ Memory → refusing becomes reading ≡ Err refusal
 forwarded becomes memory none e refusal reading made known other =

@@ -18,11 +18,11 @@ use Rattle.unl_replay.proofs.Slots.{DeskIs, desk_after, desk_named, version_at}
 
 -- ---- the version of an environment
 
--- the version of the slot that is found
+-- the version of a slot, if there is a slot with a version
 abbrev version_of : Option Slot → Option EnvVersion
 version_of slot = option_and_then (λ s. s.snapshot) slot
 
--- a slot takes a version that is not below its own
+-- if a slot gets a version that is not older, no environment gets an older version
 put_rises : (e : List ℕ) (slots : List Slot) (i : ℕ) (v : EnvVersion) → IfSome (slice_get slots i) (λ slot. IsNotBelow slot.snapshot (Some v))
     → IsNotBelow (snapshot_in e slots) (snapshot_in e (taking i v slots))
 put_rises e [] i v up = tt
@@ -39,7 +39,7 @@ put_rises e (slot ∷ slots) (suc i) v up = later (is_named e slot) (put_rises e
     later true others = not_below_itself slot.snapshot
     later false others = others
 
--- one more slot, which is empty
+-- a new empty slot makes no version older
 more_rises : (e environment : List ℕ) (slots : List Slot) → IsNotBelow (snapshot_in e slots) (snapshot_in e (slots ++ empty_slot environment ∷ []))
 more_rises e environment [] = tt
 more_rises e environment (slot ∷ slots) = decided (is_named e slot) (more_rises e environment slots)
@@ -51,7 +51,7 @@ more_rises e environment (slot ∷ slots) = decided (is_named e slot) (more_rise
 
 -- ---- a line
 
--- any version
+-- the condition that every version meets
 abbrev pub AnyVersion : List ℕ → Option EnvVersion → Type 0
 AnyVersion environment version = Unit {0}
 
@@ -59,15 +59,15 @@ AnyVersion environment version = Unit {0}
 abbrev pub Agrees : DeskState → Type 0
 Agrees d = DeskIs AnyVersion d
 
--- the version of an environment is not below the one before
+-- the version of an environment does not get older
 abbrev pub RisesAt : List ℕ → DeskState → DeskState → Type 0
 RisesAt e d after = IsNotBelow (snapshot_in e d.board.slots) (snapshot_in e after.board.slots)
 
--- each place still has the version of its slot, and no version fell
+-- each place still has the version of its slot, and no version got older
 abbrev pub Rises : DeskState → DeskState → Type 0
 Rises d after = Agrees after × ((e : List ℕ) → RisesAt e d after)
 
--- an environment is named
+-- giving an environment a slot makes no version older
 name_rises : (e environment : List ℕ) (d : DeskState) → RisesAt e d (with_name environment d)
 name_rises e environment d = decided (is_added environment d.board.slots)
   where
@@ -75,7 +75,7 @@ name_rises e environment d = decided (is_added environment d.board.slots)
     decided true = more_rises e environment d.board.slots
     decided false = not_below_itself (snapshot_in e d.board.slots)
 
--- what is not below the version of a place is not below that of its slot
+-- a version that is not older than that of a place is not older than that of its slot
 at_its_slot : (d : DeskState) (i : ℕ) (v : EnvVersion) → Agrees d → IsNotBelow (place_of (installed_by d) i).version (Some v)
     → IfSome (slice_get d.board.slots i) (λ slot. IsNotBelow slot.snapshot (Some v))
 at_its_slot d i v agrees up = of_slot (slice_get d.board.slots i) (version_at AnyVersion d.board.slots d.places i agrees)
@@ -85,7 +85,7 @@ at_its_slot d i v agrees up = of_slot (slice_get d.board.slots i) (version_at An
     of_slot None same = tt
     of_slot (Some slot) same = subst (λ (o : Option EnvVersion). IsNotBelow o (Some v)) same up
 
--- a batch is taken with this verdict
+-- the effect of a batch with this verdict makes no version older
 verdict_rises : (e : List ℕ) (slot : ℕ) (batch : Batch) (d : DeskState) (verdict : Verdict) → Agrees d
     → verdict_of (place_of (installed_by d) slot) batch ≡ verdict → RisesAt e d (after_verdict verdict slot batch d)
 verdict_rises e slot batch d Apply agrees is =
@@ -96,7 +96,7 @@ verdict_rises e slot batch d Repeat agrees is = not_below_itself (snapshot_in e 
 verdict_rises e slot batch d Old agrees is = not_below_itself (snapshot_in e d.board.slots)
 verdict_rises e slot batch d Held agrees is = not_below_itself (snapshot_in e d.board.slots)
 
--- whatever a line brings
+-- any change that a line may make leaves no version older
 pub leads_up : (d : DeskState) → Agrees d → Leads d (λ delivery. Unit {0}) (Rises d)
 leads_up d agrees = record {
   same = (agrees, λ e. not_below_itself (snapshot_in e d.board.slots));

@@ -18,14 +18,14 @@ use Rattle.unl_delta.specs.Installing.{place_of}
 use Rattle.unl_delta.proofs.Delivery.{next_follows}
 use Rattle.unl_replay.specs.Replay.{after_verdict}
 
--- each place has the version of its slot, and `P` holds of the slot's environment and this version
+-- each place has the version of its slot, and `P` holds for the slot's environment and this version
 abbrev pub SlotsAre : (List ℕ → Option EnvVersion → Type 0) → List Slot → List Place → Type 0
 SlotsAre P [] [] = Unit {0}
 SlotsAre P [] (place ∷ places) = ⊥
 SlotsAre P (slot ∷ slots) [] = ⊥
 SlotsAre P (slot ∷ slots) (place ∷ places) = (place.version ≡ slot.snapshot) × P slot.environment slot.snapshot × SlotsAre P slots places
 
--- one more slot, which is empty
+-- `SlotsAre` still holds after a new empty slot is added
 pub slots_more : (P : List ℕ → Option EnvVersion → Type 0) (environment : List ℕ) (slots : List Slot) (places : List Place) → SlotsAre P slots places
     → P environment None → SlotsAre P (slots ++ empty_slot environment ∷ []) (places ++ empty_place ∷ [])
 slots_more P environment [] [] all none = (refl, none, tt)
@@ -33,11 +33,11 @@ slots_more P environment [] (place ∷ places) all none = absurd all
 slots_more P environment (slot ∷ slots) [] all none = absurd all
 slots_more P environment (slot ∷ slots) (place ∷ places) all none = (all.0, all.1, slots_more P environment slots places all.2 none)
 
--- slot `i` is that of the environment
+-- slot `i`, if there is one, belongs to the environment
 abbrev IsOf : List ℕ → List Slot → ℕ → Type 0
 IsOf environment slots i = IfSome (slice_get slots i) (λ slot. slot.environment ≡ environment)
 
--- a slot and its place take a new version
+-- `SlotsAre` still holds after a slot and its place get the same new version
 slots_put : (P : List ℕ → Option EnvVersion → Type 0) (environment : List ℕ) (slots : List Slot) (places : List Place) (i : ℕ) (v : EnvVersion) (place : Place)
     → SlotsAre P slots places → IsOf environment slots i → place.version ≡ Some v → P environment (Some v)
     → SlotsAre P (taking i v slots) (slice_set places i place)
@@ -49,7 +49,7 @@ slots_put P environment (slot ∷ slots) (p ∷ places) zero v place all named i
 slots_put P environment (slot ∷ slots) (p ∷ places) (suc i) v place all named is holds =
     (all.0, all.1, slots_put P environment slots places i v place all.2 named is holds)
 
--- a place is replaced by one with the same version
+-- `SlotsAre` still holds after a place is replaced by one with the same version
 slots_held : (P : List ℕ → Option EnvVersion → Type 0) (slots : List Slot) (places : List Place) (i : ℕ) (place : Place) → SlotsAre P slots places
     → place.version ≡ (unwrap_or (slice_get places i) empty_place).version → SlotsAre P slots (slice_set places i place)
 slots_held P [] [] i place all same = tt
@@ -58,7 +58,7 @@ slots_held P (slot ∷ slots) [] i place all same = absurd all
 slots_held P (slot ∷ slots) (p ∷ places) zero place all same = (same ∙ all.0, all.1, all.2)
 slots_held P (slot ∷ slots) (p ∷ places) (suc i) place all same = (all.0, all.1, slots_held P slots places i place all.2 same)
 
--- what holds of the place of an environment's slot
+-- `P` holds for an environment and the version of the place of its slot
 slots_at : (P : List ℕ → Option EnvVersion → Type 0) (environment : List ℕ) (slots : List Slot) (places : List Place) (i : ℕ) → SlotsAre P slots places
     → IsOf environment slots i → P environment None → P environment (unwrap_or (slice_get places i) empty_place).version
 slots_at P environment [] [] i all named none = none
@@ -80,7 +80,7 @@ version_at P (slot ∷ slots) (p ∷ places) (suc i) all = version_at P slots pl
 same_number : (n r : ℕ) → Some n ≡ Some r → n ≡ r
 same_number n r same = cc
 
--- the slot that is found is that of the environment
+-- the slot that a lookup finds belongs to the environment
 found_from : (environment : List ℕ) (n : ℕ) (slots : List Slot) (r : ℕ) → position_from (is_named environment) n slots ≡ Some r
     → (j : ℕ) × (r ≡ j + n) × IsOf environment slots j
 found_from environment n [] r is = absurd cc
@@ -101,11 +101,11 @@ found environment slots slot is =
 
 -- ---- a desk
 
--- the same for the slots and places of a desk
+-- `SlotsAre` for the slots and places of a desk
 abbrev pub DeskIs : (List ℕ → Option EnvVersion → Type 0) → DeskState → Type 0
 DeskIs P d = SlotsAre P d.board.slots d.places
 
--- after an environment gets its slot
+-- `DeskIs` still holds after an environment gets its slot
 pub desk_named : (P : List ℕ → Option EnvVersion → Type 0) (environment : List ℕ) (d : DeskState) → DeskIs P d → P environment None
     → DeskIs P (with_name environment d)
 desk_named P environment d all none = decided (is_added environment d.board.slots)
@@ -114,7 +114,7 @@ desk_named P environment d all none = decided (is_added environment d.board.slot
     decided true = slots_more P environment d.board.slots d.places all none
     decided false = all
 
--- after a slot takes a batch with this verdict
+-- `DeskIs` still holds after a slot takes a batch with this verdict
 pub desk_after : (P : List ℕ → Option EnvVersion → Type 0) (environment : List ℕ) (slot : ℕ) (batch : Batch) (d : DeskState) (verdict : Verdict) → DeskIs P d
     → place_in environment d.board.slots ≡ Some slot
     → (verdict ≡ Apply → P environment (Some (next_version (place_of (installed_by d) slot) batch)))
@@ -130,7 +130,7 @@ desk_after P environment slot batch d Held all named holds = all
 
 -- ---- slots that represent lines of histories
 
--- each slot of the desk represents the line of histories of its environment
+-- each version on the desk represents the line of histories of its environment
 abbrev pub DeskRepresents : Histories → DeskState → Type 0
 DeskRepresents histories d = DeskIs (RepresentedAt histories) d
 
@@ -141,7 +141,7 @@ all_represented histories [] (place ∷ places) all = absurd all
 all_represented histories (slot ∷ slots) [] all = absurd all
 all_represented histories (slot ∷ slots) (place ∷ places) all = (all.1, all_represented histories slots places all.2)
 
--- after an environment takes a batch that was sent from its line
+-- `DeskRepresents` still holds after an environment takes a batch that was sent from its line
 pub verdict_represents : (histories : Histories) (environment : List ℕ) (slot : ℕ) (batch : Batch) (d : DeskState) (verdict : Verdict) → AreLines histories
     → DeskRepresents histories d → place_in environment d.board.slots ≡ Some slot → IsSent (histories.line environment) (histories.sees environment) batch
     → verdict_of (place_of (installed_by d) slot) batch ≡ verdict → DeskRepresents histories (after_verdict verdict slot batch d)

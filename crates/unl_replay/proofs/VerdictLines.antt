@@ -1,4 +1,4 @@
--- The effect of a known verdict.
+-- The effect of a batch whose verdict is known.
 use Rattle.std.proofs.Common.{◌≡◌, ℕ, Result, Ok, ap, subst, ◌∙◌}
 use Rattle.std.specs.Prelude.{Vec}
 use Rattle.std.specs.declared.alloc.Global.{Global}
@@ -20,7 +20,7 @@ desk_after_verdict Repeat slot batch d after is = is
 desk_after_verdict Old slot batch d after is = is
 desk_after_verdict Held slot batch d after is = is
 
--- the line of a verdict is printed over the desk after the batch
+-- the printed line reports the verdict, with the desk after the batch
 pub line_of_verdict : (said : Result (Vec ℕ Global) Refusal) (k slot : ℕ) (batch : Batch) (d after : DeskState) (v : Verdict)
     → v ≡ verdict_of (place_of (installed_by d) slot) batch
     → ByVerdict v (after ≡ with_batch slot batch d) (after ≡ with_hold slot d) (after ≡ d)

@@ -1,4 +1,5 @@
--- What the lines of a replay deliver to environments, and the state at each line.
+-- The batches of changes that the input lines of a replay deliver to environments, and a statement about the asks (requests) among
+-- these lines.
 use Rattle.std.specs.Prelude.{◌≡◌, ⊤, ℕ, ◌+◌, List, [], ◌∷◌, codes, IfOk, Ok, Err, ok_or, if◌then◌else◌}
 use Rattle.std.specs.Str.{bytes_eq}
 use Rattle.serde_json.specs.Data.{Data}
@@ -19,34 +20,34 @@ use Rattle.unl_replay.specs.Forms.{ask_of, batch_in, feed_in}
 use Rattle.unl_replay.specs.Refusals.{LineReading, and_then, documented}
 use Rattle.unl_replay.specs.Replay.{answer_read, environment_in, line_answer, number_in, empty_replay, put_ask}
 
--- ---- what a line brings
+-- ---- the delivery of a line
 
 -- a batch for an environment
 pub record Delivery : Type 0 where
   pub environment : List ℕ
   pub batch : Batch
 
--- the batch that is read, for this environment
+-- a delivery of the batch that is read, to this environment
 abbrev pub for_environment : List ℕ → LineReading Batch → LineReading Delivery
 for_environment environment reading = and_then reading (λ batch. Ok (record { environment = environment; batch = batch }))
 
--- what a line with a batch brings; a batch without `after` follows the number that its environment has
+-- the delivery of a line with a batch; a batch without the key `after` follows the current version number of its environment
 abbrev pub batch_brought : DeskState → Data → LineReading Delivery
 batch_brought d line = and_then (environment_in d line) (λ environment.
     for_environment environment (batch_in (number_in environment d.board) line))
 
--- what a line with a feed brings: a hydration
+-- the delivery of a line with a feed, whose batch is one hydration (an event with the whole state)
 abbrev pub feed_brought : DeskState → Data → LineReading Delivery
 feed_brought d line = and_then (environment_in d line) (λ environment. for_environment environment (feed_in line))
 
--- what a line with this op brings
+-- the delivery of a line with this op; lines with other ops deliver nothing, which is an error here
 abbrev pub brought_by : DeskState → Data → List ℕ → LineReading Delivery
 brought_by d line op =
     if bytes_eq op (codes "tokens") then Err (Document (WrongKind field.Op))
     else (if bytes_eq op (codes "batch") then batch_brought d line
     else (if bytes_eq op (codes "feed") then feed_brought d line else Err (Document (WrongKind field.Op))))
 
--- the ask of a line with this op
+-- the ask of a line with this op; a line with another op has none, which is an error here
 abbrev pub asked_by : Data → List ℕ → LineReading LineAsk
 asked_by line op =
     if bytes_eq op (codes "tokens") then Err (Document (WrongKind field.Op))
@@ -62,7 +63,7 @@ by_op read line = and_then (documented (required any_text field.Op line)) (read 
 abbrev pub by_object : {T : Type 0} → (Data → List ℕ → LineReading T) → List ℕ → LineReading T
 by_object read bytes = and_then (ok_or (object_in bytes) (Document NotJson)) (by_op read)
 
--- what a line brings
+-- the delivery of a line
 unfoldable pub brought : ReplayState → List ℕ → LineReading Delivery
 brought b bytes = by_object (brought_by b.desk) bytes
 
@@ -72,33 +73,35 @@ asked bytes = by_object asked_by bytes
 
 -- ---- all lines
 
--- The batch was sent from the line of histories of its environment.
+-- The batch was sent from the line of histories of its environment. Such a line has, for each epoch, the list of events of the
+-- environment. It is not an input line.
 abbrev pub IsSentFromHistory : Histories → Delivery → Type 0
 IsSentFromHistory histories delivery = IsSent (histories.line delivery.environment) (histories.sees delivery.environment) delivery.batch
 
--- The same for everything that the lines bring, from line `k` on, up to one that is refused.
+-- The batch of each delivery from input line `k` on was sent from the line of histories of its environment, up to the first input
+-- line that is refused.
 abbrev pub AllSent : Histories → ℕ → ReplayState → List (List ℕ) → Type 0
 AllSent histories k b [] = ⊤
 AllSent histories k b (line ∷ more) =
     IfOk (brought b line) (IsSentFromHistory histories)
     × IfOk (take_line line_answer k b line) (λ taken. AllSent histories (k + 1) taken.desk more)
 
--- The ask is answered over a board whose slots each represent the line of histories of their environment, and what a token is
--- shown of it is one revision.
+-- The ask is answered from a board on which the version of each environment is a revision of its line of histories: the state after
+-- the events of one epoch up to some number. What a token sees on this board is from one revision.
 pub record AnswersFromHistories (histories : Histories) (k : ℕ) (b : ReplayState) (line : List ℕ) (ask : LineAsk) : Type 0 where
   pub answers : answer_read k b line ≡ Ok (put_ask k b ask)
   pub represented : AllRepresented histories b.desk.board.slots
   pub shows : ShowsRevisions histories b.desk.board
 
--- The same for each ask of the lines, from line `k` on, up to one that is refused.
+-- `AnswersFromHistories` for each ask from line `k` on, up to the first line that is refused.
 abbrev pub AsksFromHistories : Histories → ℕ → ReplayState → List (List ℕ) → Type 0
 AsksFromHistories histories k b [] = ⊤
 AsksFromHistories histories k b (line ∷ more) =
     IfOk (asked line) (AnswersFromHistories histories k b line)
     × IfOk (take_line line_answer k b line) (λ taken. AsksFromHistories histories (k + 1) taken.desk more)
 
--- Batches may be lost, duplicated or out of order: if everything that these lines bring was sent from one line of histories for
--- each environment, each ask among them is answered from these histories.
+-- Suppose that there is one line of histories for each environment, and that the batches of all input lines were sent from these.
+-- Then each ask among the input lines is answered from these histories. Batches may be lost, duplicated or out of order.
 abbrev pub DeliversRevisions : List ℕ → Type 0
 DeliversRevisions bytes =
     (histories : Histories) → AreLines histories → AllSent histories 1 empty_replay (lines bytes)

@@ -1,4 +1,4 @@
--- What processing one line does.
+-- The result of processing one line, compared with its specification.
 use Rattle.std.specs.Prelude.{◌≡◌, ◌≢◌, ℕ, Result, Ok, Err, Vec}
 use Rattle.std.specs.declared.alloc.Global.{Global}
 use Rattle.unl_input.specs.Taken.{Taken}
@@ -6,7 +6,7 @@ use Rattle.unl_replay.specs.declared.refusal.Refusal.{Refusal}
 use Rattle.unl_replay.specs.declared.refusal.Refusal.TheVariants.{Memory}
 use Rattle.unl_replay.specs.Refusals.{LineReading}
 
--- The printed line and the state after it are as stated; so is a refusal, unless it is out of memory.
+-- The printed line and the state after it are those of the specification. So is a refusal. Out of memory, nothing is claimed.
 abbrev pub HasEffect : {D : Type 0} → Result (Vec ℕ Global) Refusal → D → LineReading (Taken D) → Type 0
 HasEffect (Ok line) after stated = stated ≡ Ok (record { text = line.items; desk = after })
 HasEffect (Err refusal) after stated = refusal ≢ Memory → stated ≡ Err refusal

@@ -1,4 +1,4 @@
--- How the objects of lines are read.
+-- How the JSON objects of lines are parsed.
 use Rattle.std.specs.Prelude.{ℕ, List, [], codes, Option, unwrap_or, ok_or, if◌then◌else◌, false, Ok, Err}
 use Rattle.std.specs.Str.{bytes_eq}
 use Rattle.serde_json.specs.Data.{Data}
@@ -24,11 +24,11 @@ use Rattle.unl_replay.specs.Refusals.{LineReading, and_then, documented, refusin
 abbrev pub any_value : Field → Data → Reading Data
 any_value field value = Ok value
 
--- the batch of a line; a batch without `after` follows the number that the environment has
+-- the batch of a line; `held` is the number of the environment's current version, and a batch without `after` follows it
 abbrev pub batch_in : Option ℕ → Data → LineReading Batch
 batch_in held line = and_then (documented (required any_value field.Batch line)) (λ value. refusing refusal_for_batch (batch_of held value))
 
--- a feed with a number, as a hydration
+-- the feed as a batch with one hydration, or NoNumber if the feed has no number
 abbrev pub as_batch : Feed → LineReading Batch
 as_batch feed = ok_or (batch_of_feed feed) NoNumber
 
@@ -49,7 +49,7 @@ method field value = do
   word ← ok_or (as_str value) (WrongKind field)
   method_by field word
 
--- the greatest time of a draw, in milliseconds since 1970
+-- the greatest time of a draw that is accepted, in milliseconds since 1970
 abbrev pub last_moment : ℕ
 last_moment = 100000000000000
 
@@ -57,7 +57,7 @@ last_moment = 100000000000000
 abbrev pub bytes_or_none : Option (List ℕ) → List ℕ
 bytes_or_none o = unwrap_or o []
 
--- a request with the parts given in the line, and a draw
+-- a request and the draw to answer it with
 unfoldable pub ask_of : Data → Reading LineAsk
 ask_of d = do
   target ← required any_text field.Target d

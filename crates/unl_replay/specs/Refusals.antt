@@ -52,7 +52,7 @@ abbrev pub refusing : {A E F : Type 0} → (E → F) → Result A E → Result A
 refusing fault (Ok x) = Ok x
 refusing fault (Err e) = Err (fault e)
 
--- the reading of a document in a line
+-- the result of reading a document in a line, with its fault converted to a refusal
 abbrev pub documented : {A : Type 0} → Reading A → LineReading A
 documented = refusing refusal_for
 
@@ -86,7 +86,7 @@ refusal_text NoNumber = codes "NoNumber"
 refusal_text TooManyEnvironments = codes "TooManyEnvironments"
 refusal_text Memory = []
 
--- The cause of a refused line is this text. Out of memory, nothing is claimed.
+-- The printed cause is the text of the refusal. Out of memory, nothing is claimed.
 abbrev pub Causes : LineRefusal → Refusal → Type 0
 Causes (line.Cause text) refusal = (refusal ≢ Memory) × (text ≡ refusal_text refusal)
 Causes line.Memory refusal = ⊤

@@ -1,4 +1,5 @@
--- What a replay of an input prints, and how it ends.
+-- The effect of each line of a replay: the text that it prints, and the state after it. `k` is the number of the line. The desk
+-- has the current board and the number of changes published so far (its front).
 use Rattle.std.specs.Prelude.{ℕ, List, [], ◌++◌, codes, decimal, if◌then◌else◌, Option, Some, None, option_map, ok_or, Ok, Err}
 use Rattle.std.specs.Str.{bytes_eq}
 use Rattle.serde_json.specs.Data.{Data}
@@ -35,11 +36,11 @@ use Rattle.unl_replay.specs.Refusals.{LineReading, and_then, documented, refusin
 
 -- ---- the printed lines
 
--- the line for a book that is the current one
+-- the line printed for a book of tokens that equals the current one
 abbrev pub same_line : ℕ → List ℕ
 same_line k = decimal k ++ codes ": same\n"
 
--- the line for a book that is published
+-- the line printed for a book of tokens that is published; `front` is the number of changes published so far
 abbrev pub tokens_line : ℕ → ℕ → ℕ → List ℕ
 tokens_line k generation front =
     decimal k ++ (codes ": tokens generation " ++ (decimal generation ++ (codes " front " ++ (decimal front ++ codes "\n"))))
@@ -49,7 +50,7 @@ abbrev pub revision_text : Option Revision → List ℕ
 revision_text None = codes "-"
 revision_text (Some now) = with_epoch now.epoch (decimal now.number)
 
--- the line for a verdict, with the environment's revision and the front after it
+-- the line for the verdict on a batch, with the environment's revision and the front after the batch
 abbrev pub verdict_line : ℕ → List ℕ → List ℕ → ℕ → List ℕ
 verdict_line k word revision front =
     decimal k ++ (codes ": " ++ (word ++ (codes " number " ++ (revision ++ (codes " front " ++ (decimal front ++ codes "\n"))))))
@@ -89,7 +90,7 @@ number_in environment board = option_map (λ version. version.number) (snapshot_
 abbrev pub revision_at : ℕ → DeskState → Option Revision
 revision_at slot d = option_map revision_of (place_of (installed_by d) slot).version
 
--- the line for a verdict, with the desk after it
+-- the line for the verdict on a batch, and the desk after it
 abbrev pub with_verdict_line : ℕ → List ℕ → ℕ → DeskState → DeskEffect
 with_verdict_line k word slot after =
     record { text = verdict_line k word (revision_text (revision_at slot after)) after.front; desk = after }
@@ -119,7 +120,7 @@ abbrev pub put_batch_at : ℕ → Batch → DeskState → Option ℕ → LineRea
 put_batch_at k batch d None = Err TooManyEnvironments
 put_batch_at k batch d (Some slot) = Ok (effect_of_verdict k slot batch d (verdict_of (place_of (installed_by d) slot) batch))
 
--- applies a batch to an environment; a new one gets its slot, whatever the verdict
+-- applies a batch to an environment; a new environment gets a slot even if the batch does not apply
 abbrev pub put_batch : ℕ → List ℕ → DeskState → Batch → LineReading DeskEffect
 put_batch k environment d batch =
     put_batch_at k batch (with_name environment d) (place_in environment (with_name environment d).board.slots)
@@ -128,7 +129,7 @@ put_batch k environment d batch =
 abbrev pub tokens_of_line : ℕ → DeskState → Data → LineReading DeskEffect
 tokens_of_line k d line = and_then (refusing refusal_for_book (book_of line)) (λ tokens. Ok (put_tokens k tokens d))
 
--- the environment of a line; it has a slot already, or there is room for one
+-- the environment of a line, or TooManyEnvironments if it is new and there is no room for it
 abbrev pub environment_in : DeskState → Data → LineReading (List ℕ)
 environment_in d line = and_then (documented (required name field.Environment line)) (λ environment.
     if has_room environment d.board.slots then Ok environment else Err TooManyEnvironments)
@@ -158,11 +159,11 @@ leaving_book book (Err cause) = Err cause
 abbrev pub at_desk : DeskState → Taken Book → LineEffect
 at_desk d taken = record { text = taken.text; desk = record { desk = d; book = taken.desk } }
 
--- prints an answer and records its report
+-- the line of an answer, and the metrics book after the answer's report is recorded
 abbrev pub print_and_record : ℕ → ℕ → Book → Answer → Taken Book
 print_and_record k front book answer = record { text = ask_line k front (final_reply book answer); desk = final_book book answer }
 
--- answers a request
+-- the effect of an ask: its line, and the state after its report is recorded
 abbrev pub put_ask : ℕ → ReplayState → LineAsk → LineEffect
 put_ask k b ask = at_desk b.desk (print_and_record k b.desk.front b.book (answer_of b.desk.board ask.request ask.draw))
 
@@ -219,6 +220,6 @@ empty_replay = record {
   book = [];
 }
 
--- the replay of a whole input: the text, and how it ends
+-- the replay of a whole input: the text, the state after it, and whether a line is refused
 abbrev pub replay_of : List ℕ → LinesOutcome ReplayState
 replay_of bytes = lines_outcome line_answer empty_replay bytes

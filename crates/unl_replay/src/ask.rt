@@ -1,4 +1,4 @@
-//! Reading an ask: a request, and the draw to answer it with.
+//! Parses the line of an ask: a request of a client, and the draw (a time and a random word) to answer it with.
 ghost use Rattle.std.specs.Prelude.{◌≡◌};
 ghost use Rattle.serde_json.specs.View.{view};
 ghost use Rattle.unl_documents.specs.Reading.{Gives};
@@ -12,19 +12,19 @@ use unl_documents::kind::{AnyText, AnyWhole, Kind, Whole};
 use unl_documents::{BadDocument, Field, List, Text};
 use unl_http_api::{Bytes, Method, Request};
 
-/// The greatest time of a draw, in milliseconds since 1970.
+/// The greatest time of a draw that is accepted, in milliseconds since 1970.
 const LAST_MOMENT: u64 = 100_000_000_000_000;
 
-/// A request with the parts given in the line, and the draw to answer it with.
+/// A request, and the draw to answer it with.
 #[derive(Drop)]
 pub struct LineAsk {
     /// The request.
     pub request: Request,
-    /// The moment and the random word to answer it with.
+    /// The time and the random word to answer the request with.
     pub draw: Draw,
 }
 
-/// Reads a method: `GET` or `POST`.
+/// Reads a method from JSON: `GET` or `POST`.
 struct MethodWord;
 
 impl Kind for MethodWord {
@@ -46,6 +46,7 @@ impl Kind for MethodWord {
     }
 }
 
+/// Returns the method with this name, or `WrongKind` if there is none.
 fn method_by(field: Field, word: &str) -> Result<Method, BadDocument>
     ensures { result ≡ method_by field word.now }
 {
@@ -83,7 +84,9 @@ fn bytes_or_none(alloc: Global, text: Option<Text>) -> Bytes
     }
 }
 
-/// Reads the object of an ask.
+/// Parses the JSON object of an ask. Only the target is required. The defaults are the method `GET`, the time 0, the
+/// random word 0, an empty body, and no token, no tag and no version of the specification. The error is the first
+/// fault, or out of memory.
 #[tactic(auto, unfolding(crate::specs::Forms::ask_of))]
 pub fn ask_of(alloc: Global, object: &Value) -> Result<LineAsk, BadDocument>
     ensures { Gives result (ask_of (view object.now)) }

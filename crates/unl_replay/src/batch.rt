@@ -1,4 +1,4 @@
-//! Reading the batch of a line, or its feed as a batch.
+//! Parses the batch of a line, or its feed, which is converted to a batch.
 ghost use Rattle.std.specs.Prelude.{IfOk};
 ghost use Rattle.serde_json.specs.View.{view};
 ghost use Rattle.unl_delta.specs.Valid.{IsValidBatch};
@@ -15,7 +15,11 @@ use unl_documents::document::Object;
 use unl_documents::keys::{required, value_at};
 use unl_documents::{BadDocument, Feed, Field};
 
-/// Reads the batch of a line. A batch without `after` follows the number that its environment has.
+/// Parses the batch of a line. `held` is the number of the environment's current version, if it has one. A batch
+/// without `after` follows that number.
+///
+/// # Errors
+/// `Document` if the line has no batch, `Batch` if the batch can't be read, or `Memory`: out of memory.
 #[tactic(auto, using(crate::proofs::RefusalLemmas::refused_batch), unfolding(unl_documents::specs::Kinds::required))]
 pub fn batch_in(alloc: Global, held: Option<u64>, line: &Value) -> Result<Batch, Refusal>
     ensures gives { Gives Memory result (batch_in held (view line.now)) }
@@ -27,7 +31,10 @@ pub fn batch_in(alloc: Global, held: Option<u64>, line: &Value) -> Result<Batch,
     Ok(read_batch(alloc, value, held)?)
 }
 
-/// Reads the feed of a line and returns it as a batch.
+/// Parses the feed of a line, which is the whole state of an environment, and converts it to a batch.
+///
+/// # Errors
+/// `Document` if the feed is missing or can't be read, `NoNumber` if it has no number, or `Memory`: out of memory.
 #[tactic(auto, using(crate::proofs::RefusalLemmas::refused))]
 pub fn feed_in(alloc: Global, line: &Value) -> Result<Batch, Refusal>
     ensures gives { Gives Memory result (feed_in (view line.now)) }
@@ -37,7 +44,8 @@ pub fn feed_in(alloc: Global, line: &Value) -> Result<Batch, Refusal>
     as_batch(alloc, feed)
 }
 
-/// Returns a feed as a hydration. `NoNumber` if the feed has no number.
+/// Converts a feed to a batch with one hydration, which replaces the state of the environment. Returns `NoNumber` if
+/// the feed has no number.
 fn as_batch(alloc: Global, feed: Feed) -> Result<Batch, Refusal>
     requires { IsValidState feed.state }
     ensures gives { Gives Memory result (as_batch feed) }

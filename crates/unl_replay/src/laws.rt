@@ -1,10 +1,13 @@
-//! A law on the lines of every input.
+//! A law on every input of the replay. It is the contract of a function that does nothing.
 ghost use Rattle.std.specs.Prelude.{ℕ, List};
 ghost use Rattle.unl_replay.specs.Delivery.{DeliversRevisions};
 
-/// Batches may be lost, duplicated or out of order. If everything that the lines bring was sent from one line of histories for
-/// each environment, then each ask is answered over a board whose slots each represent the line of their environment, and what
-/// the ask's token is shown is one revision.
+/// An ask is an input line with the request of a client. Each ask is answered from one revision of its environment: the
+/// state after the changes up to one number. This holds even if batches are lost, duplicated or out of order.
+///
+/// The law assumes that all batches and feeds of an environment were sent from the same histories: one history of
+/// changes for each epoch, with ascending epochs. Then at each ask, every version on the board is a revision of its
+/// environment's histories, and the features that the ask's token sees are those of one revision.
 pub fn asks_are_of_one_revision()
     ensures { (bytes : List ℕ) → DeliversRevisions bytes }
 {}

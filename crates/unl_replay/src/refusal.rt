@@ -1,4 +1,4 @@
-//! The errors of a line, and their text.
+//! The reasons for which a line is refused, and their text.
 ghost use Rattle.std.specs.Prelude.{◌≡◌, IfOk, string_bytes};
 ghost use Rattle.unl_replay.specs.Refusals.{batch_text, book_text, numbered, refusal_text};
 
@@ -8,7 +8,7 @@ use unl_delta::BadBatch;
 use unl_documents::{BadDocument, Memory, fault_text};
 use unl_tokens::BadBook;
 
-/// Why a line is refused; or `Memory`, which refuses no line.
+/// Why a line is refused. `Memory` is an error of the replay and not of the line.
 #[derive(Debug, Drop, Error)]
 pub enum Refusal {
     /// The first fault of a document in the line, or of the line itself.
@@ -26,6 +26,7 @@ pub enum Refusal {
     /// The environment is new, and there are eight already.
     #[error("there are too many environments")]
     TooManyEnvironments,
+    /// Out of memory. This ends the replay but does not refuse the line.
     #[error("out of memory")]
     Memory,
 }
@@ -95,7 +96,7 @@ impl From<BadBatch> for Refusal {
 }
 
 impl Refusal {
-    /// Returns the text printed for the refusal. It is empty for `Memory`.
+    /// Returns the text that is printed for the refusal. It is empty for `Memory`. The only error is out of memory.
     pub fn text(&self, alloc: Global) -> Result<String, Memory>
         ensures { IfOk result (λ s. string_bytes s ≡ refusal_text self.now) }
     {
@@ -110,7 +111,8 @@ impl Refusal {
     }
 }
 
-/// Returns the text of a fault of a book: the number of its kind, and the entry's place or the count.
+/// Returns the text of a fault of a book: `BadBook`, the number of the fault's kind, and the position of the bad entry
+/// or the count of tokens.
 fn book_text(alloc: Global, fault: &BadBook) -> Result<String, Memory>
     ensures { IfOk result (λ s. string_bytes s ≡ book_text fault.now) }
 {
@@ -122,7 +124,8 @@ fn book_text(alloc: Global, fault: &BadBook) -> Result<String, Memory>
     }
 }
 
-/// Returns the text of a fault of a batch: the number of its kind, and the event's place.
+/// Returns the text of a fault of a batch: `BadBatch`, the number of the fault's kind, and the position of the bad
+/// event.
 fn batch_text(alloc: Global, fault: &BadBatch) -> Result<String, Memory>
     ensures { IfOk result (λ s. string_bytes s ≡ batch_text fault.now) }
 {
@@ -135,6 +138,7 @@ fn batch_text(alloc: Global, fault: &BadBatch) -> Result<String, Memory>
     }
 }
 
+/// Returns the word and the number, separated by a space.
 fn numbered(alloc: Global, word: &str, number: u64) -> Result<String, AllocError>
     ensures { IfOk result (λ s. string_bytes s ≡ numbered word.now number) }
 {

@@ -1,4 +1,4 @@
-//! Processing one line of the replay, over the desk and the metrics book.
+//! Processes one line of a replay, with the state that the earlier lines left: the desk and the metrics book.
 ghost use Rattle.std.specs.Prelude.{◌≡◌, ◌+◌, ◌-◌, ◌^◌, ◌<◌, ◌≤◌, Ok, IfOk, IfSome, string_bytes};
 ghost use Rattle.serde_json.specs.View.{view};
 ghost use Rattle.unl_metrics.specs.Reports.{IsReport};
@@ -22,12 +22,13 @@ use unl_metrics::MetricsBook;
 /// The state that the lines change.
 #[derive(Drop)]
 pub struct ReplayState {
-    /// The desk that the asks are answered by.
+    /// The desk: the board of tokens and environments that asks are answered from.
     pub desk: OneDesk,
-    /// The metrics that the asks report.
+    /// The metrics book, in which the reports of asks are recorded.
     pub book: MetricsBook,
 }
 
+/// Returns the line of an ask up to its body. `front` is the number of changes published so far.
 fn ask_start(
     alloc: Global,
     number: u64,
@@ -40,6 +41,7 @@ fn ask_start(
     format!(in alloc; "{number}: front {front} status {status} tag {tag} body ")
 }
 
+/// Returns the tag, or a dash if there is none.
 fn tag_or_dash(tag: &Option<Text>) -> &str
     ensures { result.now ≡ tag_or_dash tag.now }
 {
@@ -49,7 +51,7 @@ fn tag_or_dash(tag: &Option<Text>) -> &str
     }
 }
 
-/// Returns the line of an ask. The body is printed unchanged.
+/// Returns the line of an ask. `front` is the number of changes published so far. The body is printed unchanged.
 fn ask_line(alloc: Global, number: u64, front: u64, reply: &Reply) -> Result<Vec<u8>, AllocError>
     ensures { IfOk result (λ v. v.items ≡ ask_line number front reply.now) }
 {
@@ -60,6 +62,7 @@ fn ask_line(alloc: Global, number: u64, front: u64, reply: &Reply) -> Result<Vec
     Ok(line)
 }
 
+/// Processes a line with an ask.
 #[tactic(auto, using(crate::proofs::RefusalLemmas::refused))]
 fn ask_of_line(
     alloc: Global,
@@ -74,6 +77,7 @@ fn ask_of_line(
     put_ask(alloc, replay_state, number, &ask)
 }
 
+/// Answers an ask and returns its line. Records the report of the answer in the metrics book.
 fn put_ask(
     alloc: Global,
     replay_state: &mut ReplayState,
@@ -87,7 +91,7 @@ fn put_ask(
     print_and_record(alloc, &mut replay_state.book, number, front, answer)
 }
 
-/// Prints an answer and records its report in the metrics book.
+/// Returns the line of an answer and records the answer's report in the metrics book.
 fn print_and_record(
     alloc: Global,
     book: &mut MetricsBook,
@@ -102,6 +106,7 @@ fn print_and_record(
     Ok(ask_line(alloc, number, front, &reply)?)
 }
 
+/// Processes a line that asks for the metrics of an environment.
 #[tactic(auto, using(crate::proofs::RefusalLemmas::refused))]
 fn metrics_of_line(
     alloc: Global,
@@ -116,7 +121,8 @@ fn metrics_of_line(
     put_metrics(alloc, &mut replay_state.book, number, environment.as_str())
 }
 
-/// Prints the bulk report of an environment and acknowledges it.
+/// Returns the line with the bulk report of an environment and acknowledges the report, or a line with a dash if there
+/// is none.
 fn put_metrics(
     alloc: Global,
     book: &mut MetricsBook,
@@ -136,13 +142,14 @@ fn put_metrics(
     }
 }
 
+/// Returns the line with the metrics of an environment.
 fn metrics_line(alloc: Global, number: u64, body: &str) -> Result<String, AllocError>
     ensures { IfOk result (λ s. string_bytes s ≡ metrics_line number body.now) }
 {
     format!(in alloc; "{number}: metrics {body}\n")
 }
 
-/// Processes a line by its op.
+/// Processes a line, given the value of its key `op`. Any other op than the five is refused with `WrongKind`.
 fn answer_op(
     alloc: Global,
     replay_state: &mut ReplayState,
@@ -164,6 +171,7 @@ fn answer_op(
     }
 }
 
+/// Processes a line that holds a JSON object.
 #[tactic(auto, using(crate::proofs::RefusalLemmas::refused))]
 fn answer_object(
     alloc: Global,
@@ -179,7 +187,8 @@ fn answer_object(
     answer_op(alloc, replay_state, number, line, op.as_str())
 }
 
-/// Processes a line and returns the text that it prints.
+/// Processes the line with this number, counted from 1, and returns the text that it prints. The error is why the line
+/// is refused, or out of memory.
 #[tactic(auto, unfolding(crate::specs::Replay::answer_read))]
 pub fn answer_line(
     alloc: Global,

@@ -1,4 +1,4 @@
-//! The replay of an input, line by line.
+//! Replays a whole input, line by line.
 ghost use Rattle.std.specs.Prelude.{◌≡◌, ◌<◌, ◌≤◌, IfOk, IsErrOf};
 ghost use Rattle.unl_base.specs.Faults.{Rose};
 ghost use Rattle.unl_input.specs.Whole.{TakesLines};
@@ -15,7 +15,7 @@ use unl_documents::{List, Memory, Text};
 use unl_input::{LineProcessor, LineRefusal, LinesFault, process_lines};
 use unl_metrics::MetricsBook;
 
-/// Processes each line over the desk and the book that the lines before it leave.
+/// Processes each line with the state that the earlier lines left.
 struct Answers;
 
 impl LineProcessor for Answers {
@@ -23,7 +23,7 @@ impl LineProcessor for Answers {
 
     ghost line_result = { line_answer };
 
-    // Each earlier line made at most one publication.
+    // The front counts the published changes, and each earlier line published at most one.
     ghost fits = { λ k replay_state. replay_state.desk.front < k };
 
     #[tactic(auto, using(crate::proofs::RefusalLemmas::refused_line))]
@@ -40,7 +40,7 @@ impl LineProcessor for Answers {
     }
 }
 
-/// Returns the cause printed for a refusal, or `Memory` if out of memory.
+/// Returns the text of a refusal as the cause that is printed, or `Memory` if memory ran out.
 fn cause_of(alloc: Global, refusal: &Refusal) -> LineRefusal
     ensures { Causes result refusal.now }
 {
@@ -56,17 +56,19 @@ fn cause_of(alloc: Global, refusal: &Refusal) -> LineRefusal
 /// Processes the lines of an input, one after another, to its end, and prints one line for each.
 ///
 /// # Errors
-/// `Bad` if a line is refused (the cause is printed), `ReadFault` if the source fails, `WriteFault` if the sink fails, `Memory`
-/// if out of memory.
+/// `Bad` if a line is refused (the cause is printed), `ReadFault` if the source fails, `WriteFault` if the sink fails,
+/// `Memory` if out of memory.
 pub fn replay<S: Source, K: Sink>(
     alloc: Global,
     source: &mut S,
     sink: &mut K,
 ) -> Result<(), LinesFault>
-    // What is read and sent, by the end, as a list of answered lines. Batches may be lost, duplicated or out of order: an
-    // environment's epoch and number never fall along the list. If all batches and feeds were sent from one line of histories for
-    // each environment, the text printed for each ask is its answer over one revision of these, as both the recipient and the
-    // token see it.
+    // States what is read and sent, for each result. It also holds for the input lines that were answered:
+    // - From one input line to the next, the version of an environment is never replaced by an older one, even if
+    //   batches are lost, duplicated or out of order. Its epoch never falls, and its number never falls in an epoch.
+    // - Assume that all batches and feeds of each environment were sent from one line of histories (one history of
+    //   events for each epoch). Then each request is answered from one revision of its environment, restricted to the
+    //   projects that both the recipient and the token see.
     ensures replays { Replays result (S.left source.old) (S.left source.new) (K.sent sink.old) (K.sent sink.new) }
 
     // `ReadFault` and `WriteFault` are returned only if the source or the sink failed.
@@ -78,7 +80,7 @@ pub fn replay<S: Source, K: Sink>(
     answer_lines(alloc, source, sink)
 }
 
-/// Answers the lines of an input, from a desk without environments and an empty metrics book on.
+/// Processes the lines of an input, starting without environments and tokens and with an empty metrics book.
 fn answer_lines<S: Source, K: Sink>(
     alloc: Global,
     source: &mut S,
@@ -94,7 +96,7 @@ fn answer_lines<S: Source, K: Sink>(
     process_lines::<Answers, S, K>(alloc, &mut state, source, sink)
 }
 
-/// Creates the state before the first line.
+/// Creates the state before the first line: no environments, no tokens, no metrics.
 fn new_state(alloc: Global) -> Result<ReplayState, Memory>
     ensures is { IfOk result (λ state. state ≡ empty_replay) }
     ensures front { IfOk result (λ state. state.desk.front ≡ 0) }

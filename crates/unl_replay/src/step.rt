@@ -1,4 +1,6 @@
-//! Processing lines of tokens, batches and feeds, over the desk.
+//! Processes lines with tokens, batches and feeds. They change the desk, which has the current board: the tokens, and
+//! the version of each environment in its slot. In the functions that return a printed line, `number` is the number of
+//! the line.
 ghost use Rattle.std.specs.Prelude.{◌≡◌, ◌+◌, ◌-◌, ◌^◌, ◌<◌, ◌≤◌, Ok, IfOk, string_bytes, length, decimal};
 ghost use Rattle.serde_json.specs.View.{view};
 ghost use Rattle.unl_core.specs.DeskStates.{installed_by};
@@ -24,7 +26,7 @@ use unl_documents::kind::Name;
 use unl_documents::{Field, Text};
 use unl_tokens::Book;
 
-/// Returns the number of an environment's version, if it has one.
+/// Returns the number of an environment's current version, if it has one.
 fn number_in(desk: &OneDesk, environment: &str) -> Option<u64>
     ensures { result ≡ number_in environment.now desk.now.board }
 {
@@ -34,7 +36,8 @@ fn number_in(desk: &OneDesk, environment: &str) -> Option<u64>
     }
 }
 
-/// Returns the printed revision of a slot, or a dash if it has none.
+/// Returns the revision of a slot as text: its number, preceded by the epoch and a dot unless the epoch is 0. Returns a
+/// dash if the slot has no version.
 fn revision_text(alloc: Global, desk: &OneDesk, slot: usize) -> Result<String, AllocError>
     requires { slot < length desk.now.places }
     ensures { IfOk result (λ s. string_bytes s ≡ revision_text (revision_at slot desk.now)) }
@@ -45,6 +48,7 @@ fn revision_text(alloc: Global, desk: &OneDesk, slot: usize) -> Result<String, A
     }
 }
 
+/// Returns the number, preceded by the epoch and a dot unless the epoch is 0.
 fn text_of(alloc: Global, epoch: u64, number: u64) -> Result<String, AllocError>
     ensures { IfOk result (λ s. string_bytes s ≡ with_epoch epoch (decimal number)) }
 {
@@ -54,12 +58,14 @@ fn text_of(alloc: Global, epoch: u64, number: u64) -> Result<String, AllocError>
     format!(in alloc; "{epoch}.{number}")
 }
 
+/// Returns the line for a book of tokens that equals the current one.
 fn same_line(alloc: Global, number: u64) -> Result<String, AllocError>
     ensures { IfOk result (λ s. string_bytes s ≡ same_line number) }
 {
     format!(in alloc; "{number}: same\n")
 }
 
+/// Returns the line for a book of tokens that is published. `front` is the number of changes published so far.
 fn tokens_line(
     alloc: Global,
     number: u64,
@@ -71,6 +77,8 @@ fn tokens_line(
     format!(in alloc; "{number}: tokens generation {generation} front {front}\n")
 }
 
+/// Returns the line for the verdict on a batch. `word` is the name of the verdict, `version` the revision of the
+/// environment, and `front` the number of changes published so far.
 fn verdict_line(
     alloc: Global,
     number: u64,
@@ -83,6 +91,7 @@ fn verdict_line(
     format!(in alloc; "{number}: {word} number {version} front {front}\n")
 }
 
+/// Publishes a book of tokens unless it is the current one, and returns the line that reports this.
 #[tactic(auto, using(crate::proofs::Books::kept, crate::proofs::Books::taken))]
 fn put_tokens(
     alloc: Global,
@@ -102,7 +111,7 @@ fn put_tokens(
     }
 }
 
-/// Returns the line for a verdict.
+/// Returns the line that reports the verdict on a batch. `word` is the name of the verdict.
 fn with_verdict_line(
     alloc: Global,
     desk: &OneDesk,
@@ -117,7 +126,7 @@ fn with_verdict_line(
     Ok(verdict_line(alloc, number, word, version.as_str(), desk.front())?.into_bytes())
 }
 
-/// Judges a batch at a slot, and applies it if the verdict says so.
+/// Decides whether a batch applies to a slot, applies it if so, and returns the line that reports the verdict.
 #[tactic(auto, using(crate::proofs::VerdictLines::line_of_verdict))]
 fn apply_to_slot(
     alloc: Global,
@@ -137,6 +146,7 @@ fn apply_to_slot(
     with_verdict_line(alloc, desk, number, word_of(verdict), slot)
 }
 
+/// Returns the name of a verdict as it is printed.
 fn word_of(verdict: Verdict) -> &'static str
     ensures { result.now ≡ word_of verdict }
 {
@@ -149,7 +159,7 @@ fn word_of(verdict: Verdict) -> &'static str
     }
 }
 
-/// Applies a batch to an environment. A new environment gets its slot, whatever the verdict.
+/// Applies a batch to an environment. A new environment gets a slot even if the batch does not apply.
 fn put_batch(
     alloc: Global,
     desk: &mut OneDesk,
@@ -168,6 +178,7 @@ fn put_batch(
     }
 }
 
+/// Processes a line with a book of tokens, which is published unless it is the current one.
 #[tactic(auto, using(crate::proofs::RefusalLemmas::refused_book))]
 pub(crate) fn tokens_of_line(
     alloc: Global,
@@ -183,7 +194,8 @@ pub(crate) fn tokens_of_line(
     put_tokens(alloc, desk, number, tokens)
 }
 
-/// Reads the environment of a line. It has a slot already, or there is room for one.
+/// Parses the environment of a line. Returns `TooManyEnvironments` if the environment is new and the board has no room
+/// for it.
 #[tactic(auto, using(crate::proofs::RefusalLemmas::refused))]
 fn environment_in(alloc: Global, desk: &OneDesk, line: &Value) -> Result<Text, Refusal>
     ensures { Gives Memory result (environment_in desk.now (view line.now)) }
