@@ -1,4 +1,5 @@
-//! Tests of an edge writer whose readers answer requests: in threads of their own while it publishes, and after they learned all of it.
+//! Tests of an edge writer whose readers answer requests: in threads of their own while the writer publishes, and after
+//! they learned all that it published.
 ghost use Rattle.std.specs.Prelude.{All, IfOk, IfSome};
 ghost use Rattle.unl_edge_state.specs.Reading.{HasBegun, continuation_of};
 ghost use Rattle.unl_publication.specs.Looking.{SameOrigin};
@@ -15,12 +16,14 @@ use unl_edge_state::{EdgeReader, EdgeWriter, begin, begin_orderly, readers_are_s
 use unl_http_api::{Method, Request};
 use unl_tokens::Book;
 
+/// A token book with one frontend token.
 const TOKENS: &[u8] = br#"{"tokens":[{"token":"*:dev.f","type":"frontend"}]}"#;
 
-/// The front of an answer (how many publications its board had), and its status.
+/// The front of an answer (the number of installs that led to its board), and its HTTP status.
 type FrontAndStatus = (u64, u16);
 
-/// Creates a writer and two readers of a board with one empty slot, by `begin` or by `begin_orderly`.
+/// Creates a writer and two readers of a board with one empty slot: by `begin`, where the writer takes any install, or
+/// by `begin_orderly`, where each installed version must be the next one at its slot.
 fn begun<'a, W: Wait>(
     rt: &'a W,
     alloc: Global,
@@ -68,7 +71,8 @@ fn ask(alloc: Global, reader: &mut EdgeReader) -> Result<FrontAndStatus, Memory>
     Ok((front, answer.reply.status))
 }
 
-/// The status of an answer at front 0, where the token is unknown, and at each later one, where its environment has no state.
+/// The status of an answer at front 0, where the token is unknown, and at each later one, where its environment has no
+/// state.
 const STATUSES: [u16; 2] = [403, 503];
 
 /// A job that publishes a token book 20 times.
@@ -145,7 +149,8 @@ fn askers(alloc: Global, readers: Vec<EdgeReader>) -> Result<Vec<Asking>, Memory
     Ok(asking)
 }
 
-/// Publishes on this thread while each reader answers requests in its own thread. Returns whether every answer was right.
+/// Publishes on this thread while each reader answers requests in its own thread. Returns whether every answer was
+/// right.
 fn publish_concurrently<R: Threads + Wait>(
     rt: &R,
     alloc: Global,
@@ -171,14 +176,15 @@ fn publish_concurrently<R: Threads + Wait>(
     }
 }
 
-/// Whether the writer can report its list of installs to two readers.
+/// Whether two reports of the writer, both not learned yet, contain its list of installs.
 fn reports_lists<W: Wait>(writer: &mut EdgeWriter<'_, W>) -> bool {
     let first = writer.tell();
     let second = writer.tell();
     first.has_list() && second.has_list()
 }
 
-/// Publishes while two readers answer. Returns whether every answer was right, and whether the writer could report its list to both.
+/// Publishes while two readers answer. Returns whether every answer was right and the writer could report its list
+/// twice.
 fn readers_answer_while_it_publishes<R: Threads + Wait>(
     rt: &R,
     alloc: Global,
@@ -212,8 +218,9 @@ fn take_one<W: Wait>(
     readers.pop()
 }
 
-/// Publishes a token book. Of the two readers one tries to learn all of it where the writer has no room for a third list, and then
-/// from the first list. Returns the front and the status of its answer, or an error if it learns in the first case or not in the second.
+/// Publishes a token book. Then the writer makes three reports, but it has room for two lists only. The reader must not
+/// be able to learn all from the third report, and must be able to from the first; otherwise an error is returned.
+/// Returns the front and the status of the reader's next answer.
 fn learn_and_ask<W: Wait>(
     alloc: Global,
     writer: &mut EdgeWriter<'_, W>,
@@ -232,7 +239,7 @@ fn learn_and_ask<W: Wait>(
     ask(alloc, &mut reader)
 }
 
-/// Returns the front and the status of the first answer of a reader that has learned all of one publication.
+/// Returns the front and the status of the first answer of a reader that has learned a list of one install.
 fn answer_after_learning<W: Wait>(rt: &W, alloc: Global) -> Result<FrontAndStatus, Memory> {
     let (mut writer, mut readers) = begun(rt, alloc, true)?;
     let answer = match take_one(&writer, &mut readers) {

@@ -1,5 +1,5 @@
-//! Tests of what readers see of the published boards: a reader that has learned of a publication, and readers in their own
-//! threads that run concurrently with a writer.
+//! Tests of what readers see of published values and boards: readers that learn from the writer's report how many
+//! changes are published, and readers in their own threads that run concurrently with a writer.
 #![tactic(auto)]
 
 #[cfg(test)]

@@ -1,4 +1,5 @@
-//! A test of published values, with a reader that learns of each publication from what the writer reports, and one that does not.
+//! A test of published values, with a reader that learns of each publication from what the writer reports, and one that
+//! does not.
 ghost use Rattle.std.specs.Prelude.{◌≡◌, ◌<◌, ◌≤◌, IfOk, IfSome};
 ghost use Rattle.unl_publication.specs.Looking.{SameOrigin};
 ghost use Rattle.unl_publication.specs.Seen.{next, published, reported_list};
@@ -9,7 +10,7 @@ use std::sync::Wait;
 use std::test::Fail;
 use unl_publication::{Counted, Publisher, Reader, Ruled, Told, Writer, new_reader};
 
-/// A number that is published, and how often it was (its front).
+/// A published number, and how many numbers were published so far (its front).
 #[derive(Drop)]
 struct Setting {
     number: u64,
@@ -47,6 +48,7 @@ impl Counted<u64> for Setting {
     ghost counts = { λ s what. refl };
 }
 
+/// The opening value: the number 0 at front 0.
 fn opening() -> Setting
     ensures { (result.number ≡ 0) × (result.front ≡ 0) }
 {
@@ -62,7 +64,8 @@ type SettingReader = Reader<Setting, u64, Ruled<u64>>;
 /// A publisher of settings.
 type SettingPublisher<'a, W> = Publisher<'a, W, Setting, u64, Ruled<u64>>;
 
-/// What a reader saw at a look: the front, and the sum of the number there and one that was passed. `None` if the look failed.
+/// The result of a look: the front, and the sum of the number that was seen and a given number. `None` if the look
+/// failed.
 type Look = Option<(u64, u64)>;
 
 /// Looks once, and returns the front and the sum of the number seen and `added`.
@@ -93,9 +96,10 @@ fn publish_and_tell<W: Wait>(
     }
 }
 
-/// The first reader looks at the opening value, and after each of two publications of which it learns. Then it learns of two more
-/// without a look between them, and at last of one that is older than what it knows. The other reader learns of nothing, and looks
-/// once, after the first publication. Returns what the two saw.
+/// The first reader looks at the opening value, and again after each of two publications, which it learns of. Then
+/// three more numbers are published. The reader learns of the first and the third of them, and looks. At last it learns
+/// of the second, which is older than what it knows, and looks again. The other reader learns of nothing, and looks
+/// once, after the first publication. Returns what the two readers saw.
 fn look_and_learn<W: Wait>(
     writer: &mut SettingPublisher<'_, W>,
     reader: SettingReader,
@@ -120,8 +124,8 @@ fn look_and_learn<W: Wait>(
     Ok(([zero, one, two, five, still], not_learned))
 }
 
-/// Creates a writer with room for this many readers. Returns whether it can report its list of publications at first, and what two
-/// readers see.
+/// Creates a writer with room for this many readers. Returns whether it can report its list of publications at first,
+/// and what two readers see.
 fn seen_with_seats<W: Wait>(
     rt: &W,
     alloc: Global,
@@ -152,7 +156,7 @@ const LEARNED: [Look; 5] = [
     Some((5, 111)),
 ];
 
-/// A list is reported only if there is room for one more reader. Without it a reader learns the front alone.
+/// A list is reported only if there is room for one more reader. Without the list a reader learns only the front.
 #[test]
 fn a_reader_learns_again_and_again(rt: HostRuntime) -> Result<(), Fail> {
     for seats in 2..5 {
