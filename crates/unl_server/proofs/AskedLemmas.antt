@@ -1,4 +1,4 @@
--- The requests that were read from a link.
+-- Lemmas about the requests that were read from a link.
 use Rattle.std.proofs.Common.{◌≡◌, ℕ, ◌+◌, ◌⊎◌, inl, inr, List, [], ◌∷◌, ◌++◌, Option, refl, sym, subst}
 use Rattle.unl_server.specs.Conversation.{AreAnswered, Concludes, CutInRefusal, CutInReply, GivesUp, IsUnreplied, Serves}
 use Rattle.unl_http_api.specs.declared.end.End.{End}

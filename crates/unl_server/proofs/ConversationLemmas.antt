@@ -1,4 +1,4 @@
--- A conversation continues by one exchange, and ends as the session of its bytes does.
+-- Lemmas: a conversation grows by one request and its reply, and ends as the session of its bytes does.
 use Rattle.std.proofs.Common.{◌≡◌, ℕ, ◌+◌, ◌<◌, Bool, true, ◌||◌, List, [], ◌∷◌, ◌++◌, length, refl, sym, ap, ◌∙◌, subst, arith, append_assoc, append-nil, Option, Some, None, ◌⊎◌, inl, inr}
 use Rattle.std.specs.Prelude.{◌==◌}
 use Rattle.std.proofs.lemmas.Bool.Decides.{nat_tests}
@@ -64,7 +64,7 @@ turn_reads Sent Step start now new requests last close talk turn =
     Reads_more (talk.read ++ turn.read) requests turn.request (now.held ++ turn.read) new.held
     (Reads-append talk.read requests now.held turn.read talk.reads) turn.begins
 
--- and it was answered
+-- the request that was read was answered
 turn_answered : {S : Type 0} (Sent : Option (List ℕ) → List ℕ → Option (List ℕ) → Type 0)
     (Step : S → Request → Reply → S → Type 0) (start now new : ConnectionState S) (requests : List Request) (last close : Bool)
     (talk : Talk Step start now requests) → last ≡ (length requests == 999) → (turn : Exchanges Sent Step last close now new)

@@ -1,4 +1,4 @@
--- Links served one after another, and what that means for a door whose links are observable.
+-- Lemmas about links that are served one after another, and about a door whose links are observable.
 use Rattle.std.proofs.Common.{◌≡◌, ℕ, zero, suc, ◌+◌, List, [], ◌∷◌, ◌++◌, Option, Some, refl, sym, ap, ◌∙◌, subst, arith, append_assoc, append-nil, length-append, ◌⊎◌, inl, inr}
 use Rattle.std.specs.Prelude.{drop, option_map}
 use Rattle.unl_base.specs.Doors.{DoorState, with_returned, next_of, handing_out}

@@ -1,4 +1,4 @@
--- How a turn ends.
+-- Lemmas about one turn of a connection: what was sent, and how the turn ended.
 use Rattle.std.proofs.Common.{◌≡◌, ℕ, Bool, ◌||◌, List, ◌++◌, refl, sym, subst, Option, Some, None, inl, inr}
 use Rattle.unl_base.specs.Streams.{Takes, Sends, SendsPrefix}
 use Rattle.unl_http_api.specs.declared.end.End.{End}
@@ -90,7 +90,7 @@ turn_cut Step RunsOut last close old new request Asked held left sent receives s
 turn_cut Step RunsOut last close old new request Limit held left sent receives same same_held unsent is replied = absurd replied
 turn_cut Step RunsOut last close old new request CutOff held left sent receives same same_held unsent is replied = absurd replied
 
--- what was sent of the reply to an answered request
+-- how much of the reply to an answered request was sent
 pub replied_so : {S : Type 0} (Step : S → Request → Reply → S → Type 0) (RunsOut : S → Request → S → Type 0)
     (request : Request) (close : Bool) (before after : S) (reply : Reply) (sent : Option (List ℕ)) (end : Option End)
     (sent_after : Option (List ℕ)) → Step before request reply after → Writes (reply_text reply close) sent end sent_after

@@ -1,4 +1,4 @@
--- What a conversation leaves if memory runs out, and how many requests were answered in it.
+-- Lemmas about a conversation: its effect if memory runs out, and the number of its answered requests.
 use Rattle.std.proofs.Common.{◌≡◌, ℕ, ◌+◌, ◌<◌, ◌≤◌, Bool, ◌||◌, List, [], ◌∷◌, ◌++◌, length, refl, sym, ap, ◌∙◌, subst, arith, append_assoc, length-append, Option, Some, ◌⊎◌, inl, inr}
 use Rattle.std.specs.Prelude.{◌==◌}
 use Rattle.unl_base.specs.declared.draws.Draw.{Draw}
@@ -36,7 +36,7 @@ breaks_known Step RunsOut now new rest left broken =
       unreplied = broken.unreplied;
     }
 
--- what a turn leaves when memory runs out
+-- the state after a turn in which memory ran out
 next_known : {S : Type 0} (Step : S → Request → Reply → S → Type 0) (RunsOut : S → Request → S → Type 0)
     (now new : ConnectionState S) (rest : List ℕ) → now.left ≡ Some rest
     → (new.state ≡ now.state) ⊎ Breaks Step RunsOut now new
@@ -44,7 +44,7 @@ next_known : {S : Type 0} (Step : S → Request → Reply → S → Type 0) (Run
 next_known Step RunsOut now new rest left (inl same) = inl same
 next_known Step RunsOut now new rest left (inr broken) = inr (breaks_known Step RunsOut now new rest left broken)
 
--- complete, or cut short where the fault count rose from a later value, hence from an earlier one
+-- a statement holds, or the fault count rose: if it rose from a later value, it rose from an earlier one
 rose_earlier : {P : Type 0} (a b c : ℕ) → a ≤ b → P ⊎ Rose b c → P ⊎ Rose a c
 rose_earlier a b c up (inl p) = inl p
 rose_earlier a b c up (inr rose) = inr (omega (arith, up, rose))
@@ -81,15 +81,15 @@ gives_up Step RunsOut start now new requests last bytes end faults between fault
       };
     }
 
--- ---- what was answered, whether or not the bytes are observable
+-- ---- the answered requests, whether or not the bytes are observable
 
--- each step increments a count, and running out of memory doesn't
+-- `count` is a number in a state that each step increments, and that running out of memory leaves unchanged
 pub record Counts
     {S : Type 0} (Step : S → Request → Reply → S → Type 0) (RunsOut : S → Request → S → Type 0) (count : S → ℕ) : Type 0 where
   pub step : (s t : S) (q : Request) (r : Reply) → Step s q r t → count t ≡ count s + 1
   pub runs_out : (s t : S) (q : Request) → RunsOut s q t → count t ≡ count s
 
--- the handler's own count is such a count
+-- the number of answered requests in `HandlerState` is such a count
 pub Answers_count : {S : Type 0} (gives : S → Request → Draw → Reply → S → Type 0) (out_of_memory : S → Request → Draw → S → Type 0)
     → Counts (HandlesRequest gives) (RunsOutOfMemory out_of_memory) (λ s. s.count)
 Answers_count gives out_of_memory = record {

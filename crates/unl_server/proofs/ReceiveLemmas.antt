@@ -1,11 +1,11 @@
--- Bytes read in pieces are read as a whole.
+-- Lemmas about bytes that are read in several pieces.
 use Rattle.std.proofs.Common.{◌≡◌, ℕ, List, [], ◌++◌, refl, sym, ap, ◌∙◌, subst, append_assoc, Option, Some, None}
 use Rattle.std.specs.Option.{option_map}
 use Rattle.unl_base.specs.Streams.{Takes}
 use Rattle.unl_server.specs.declared.receive.Received.{Received}
 use Rattle.unl_server.specs.Receive.{IsNextItem, Receives}
 
--- nothing was read
+-- taking no bytes changes nothing
 pub Takes_nothing : (left : Option (List ℕ)) → Takes left [] left
 Takes_nothing None = refl
 Takes_nothing (Some bytes) = refl

@@ -1,5 +1,5 @@
--- All of a connection: its requests, the reply to each, and how it ended. `Step before request reply after` is the effect
--- of one answer on the handler's state, and `RunsOut before request after` the effect of running out of memory at a request.
+-- A whole connection: its requests, the reply to each, and how it ended. `Step before request reply after` is the effect of one answer on
+-- the handler's state, and `RunsOut before request after` is the effect of running out of memory at a request.
 use Rattle.std.specs.Prelude.{◌≡◌, ◌≢◌, ◌≤◌, ℕ, ◌+◌, ◌⊎◌, ◌==◌, ◌||◌, List, [], ◌∷◌, ◌++◌, length, Option, Some, ⊤}
 use Rattle.unl_base.specs.Faults.{Rose}
 use Rattle.unl_base.specs.Streams.{Sends, SendsPrefix}
@@ -13,8 +13,8 @@ use Rattle.unl_http_api.specs.Session.{AreWhole, IsOpen, IsRegular, ReadsRequest
 use Rattle.unl_server.specs.Exchange.{Unreplied, Sends500}
 use Rattle.unl_server.specs.Links.{LinkView}
 
--- The text is the replies to the requests, one step each, after `count` earlier requests. The connection ends after a reply
--- to a request that asks for it, and after the 1,000th.
+-- `text` is the replies to these requests, in order; each reply is one step of the handler's state. `count` requests were answered before.
+-- A reply closes the connection if its request asks for that, or if it is the 1,000th on the connection.
 abbrev pub AreAnswered : {S : Type 0} → (S → Request → Reply → S → Type 0) → ℕ → S → List Request → List ℕ → S → Type 0
 AreAnswered {S} Step count before [] text after = (text ≡ []) × (after ≡ before)
 AreAnswered {S} Step count before (q ∷ qs) text after =
@@ -22,7 +22,7 @@ AreAnswered {S} Step count before (q ∷ qs) text after =
     × (text ≡ reply_text reply (q.close || count == 999) ++ more)
     × AreAnswered Step (count + 1) middle qs more after
 
--- what is sent after the replies
+-- the bytes that are sent after the replies if the connection ends like this: a refusal of invalid bytes, or nothing
 abbrev pub farewell : End → List ℕ
 farewell Closed = []
 farewell Asked = []
@@ -33,7 +33,8 @@ farewell ReadFault = []
 farewell WriteFault = []
 farewell Memory = []
 
--- the session of the bytes has this end, each of its requests was answered, and all replies were sent
+-- The bytes are a session (`Session`: some requests and an end) with this end. Each of its requests was answered, and all replies were
+-- sent.
 pub record Serves
     {S : Type 0} (Step : S → Request → Reply → S → Type 0) (bytes : List ℕ) (sent : Option (List ℕ)) (before : S)
     (end : End) (after : S) (sent_after : Option (List ℕ)) : Type 0 where
@@ -68,7 +69,7 @@ pub record CutInReply
   pub answered : AreAnswered Step 0 before (earlier ++ request ∷ []) text after
   pub sends : SendsPrefix sent text sent_after
 
--- a write failed in a refusal: the session ends with it, and only a prefix of the replies and the refusal was sent
+-- a write failed in a refusal: the session ends with the refusal, and only a prefix of the replies and the refusal was sent
 pub record CutInRefusal
     {S : Type 0} (Step : S → Request → Reply → S → Type 0) (bytes : List ℕ) (sent : Option (List ℕ)) (before after : S)
     (sent_after : Option (List ℕ)) : Type 0 where
@@ -105,7 +106,7 @@ pub record GivesUp
   pub sends : Sends sent text sent_before
   pub sent_500 : Sends500 sent_before faults sent_after faults_after
 
--- what holds for each end, other than running out of memory
+-- What was answered and sent, for each end of a connection. For the end `Memory` see `GivesUp`.
 abbrev pub Concludes :
     {S : Type 0} → (S → Request → Reply → S → Type 0) → List ℕ → Option (List ℕ) → S → End → S → Option (List ℕ)
     → Option (List ℕ) → Type 0
@@ -121,7 +122,7 @@ Concludes Step bytes sent before WriteFault after left_after sent_after =
     CutInReply Step bytes sent before after sent_after ⊎ CutInRefusal Step bytes sent before after sent_after
 Concludes Step bytes sent before Memory after left_after sent_after = ⊤
 
--- each of these requests was answered, and then what this end sends was sent
+-- each of these requests was answered, and then the bytes were sent that belong to this end (`farewell`)
 pub record AnswersAll
     {S : Type 0} (Step : S → Request → Reply → S → Type 0) (requests : List Request) (sent : Option (List ℕ)) (before : S)
     (end : End) (after : S) (sent_after : Option (List ℕ)) : Type 0 where
@@ -145,14 +146,14 @@ pub record Reaches
 pub record Converses
     {S : Type 0} (Step : S → Request → Reply → S → Type 0) (RunsOut : S → Request → S → Type 0) (link : LinkView) (before : S)
     (end : End) (after : S) (count : ℕ) (link_after : LinkView) : Type 0 where
-  -- the end is that of the session, and its requests were answered one after another
+  -- if the bytes to come are observable, what was answered and sent agrees with the end
   pub session : (bytes : List ℕ) → link.left ≡ Some bytes
       → Concludes Step bytes link.sent before end after link_after.left link_after.sent
   -- if no call of the link failed and memory didn't run out, the end is the session's, and each request was answered
   pub complete : (bytes : List ℕ) (asked : List Request) (ending : End) → link.left ≡ Some bytes → Session bytes asked ending
       → ¬ (Rose link.faults link_after.faults) → end ≢ Memory
       → (end ≡ ending) × AnswersAll Step asked link.sent before ending after link_after.sent
-  -- so complete requests, of which only the last may end the connection, get exactly their replies
+  -- in particular, if the bytes are complete requests, of which only the last may end the connection, exactly their replies are sent
   pub whole : (bytes : List ℕ) (asked : List Request) → link.left ≡ Some bytes → AreWhole bytes asked
       → ¬ (Rose link.faults link_after.faults) → end ≢ Memory
       → IsRegular end × AnswersAll Step asked link.sent before end after link_after.sent

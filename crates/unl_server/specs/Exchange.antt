@@ -1,4 +1,4 @@
--- One exchange on a connection: a request and its reply, or the end.
+-- One turn of a connection: a request and its reply, or the end of the connection.
 use Rattle.std.specs.Prelude.{◌≡◌, ◌≢◌, ℕ, ◌⊎◌, ◌||◌, Bool, true, false, List, [], ◌++◌, Option, Some, None, ⊤}
 use Rattle.unl_base.specs.Faults.{Rose}
 use Rattle.unl_base.specs.Streams.{Takes, HasEnded, Sends, SendsPrefix}
@@ -9,7 +9,9 @@ use Rattle.unl_http_api.specs.declared.request.Request.{Request}
 use Rattle.unl_http_api.specs.Reply.{reply_text, refusal_text}
 use Rattle.unl_http_api.specs.Requests.{BeginsWith, IsBad, IsUnfinished}
 
--- the request was answered by a step, and the reply was sent, in full or in part
+-- The handler answered the request, and the reply was sent: in full if `Sent` is `Sends`, in part if it is `SendsPrefix`. `Step before
+-- request reply after` says that the reply answers the request, and that the handler's state changes from `before` to `after`. `close`
+-- says whether the reply closes the connection.
 pub record Replies
     {S : Type 0} (Sent : Option (List ℕ) → List ℕ → Option (List ℕ) → Type 0)
     (Step : S → Request → Reply → S → Type 0) (request : Request) (close : Bool) (before after : S)
@@ -18,7 +20,8 @@ pub record Replies
   pub steps : Step before request reply after
   pub sends : Sent sent (reply_text reply close) sent_after
 
--- the request has no complete reply, since memory ran out while it was answered or afterwards
+-- The reply to the request was not sent in full, since memory ran out: while the handler answered the request (`RunsOut`), or after it
+-- had answered (`Step`).
 abbrev pub Unreplied :
     {S : Type 0} → (S → Request → Reply → S → Type 0) → (S → Request → S → Type 0) → S → Request → S → Type 0
 Unreplied Step RunsOut before request after =
@@ -32,7 +35,8 @@ pub record ConnectionState (S : Type 0) : Type 0 where
   pub state : S
   pub sent : Option (List ℕ)
 
--- a request was read and its reply sent
+-- A request was read, and its reply was sent, in full or in part as `Sent` says. `close` says whether the request closes the connection,
+-- and `last` whether it is the last one that the connection may serve. In either case the reply closes the connection.
 pub record Exchanges
     {S : Type 0} (Sent : Option (List ℕ) → List ℕ → Option (List ℕ) → Type 0)
     (Step : S → Request → Reply → S → Type 0) (last close : Bool) (old new : ConnectionState S) : Type 0 where
@@ -43,7 +47,8 @@ pub record Exchanges
   pub closes : request.close ≡ close
   pub replies : Replies Sent Step request (request.close || last) old.state new.state old.sent new.sent
 
--- the bytes ended the connection, and nothing was sent except what this end sends
+-- Bytes for which `P` holds were found, and they end the connection. The handler's state is unchanged, and only `farewell` was sent, in
+-- full or in part as `Sent` says.
 pub record Stops
     {S : Type 0} (Sent : Option (List ℕ) → List ℕ → Option (List ℕ) → Type 0)
     (P : List ℕ → Option (List ℕ) → Type 0) (farewell : List ℕ) (old new : ConnectionState S) : Type 0 where
@@ -63,8 +68,8 @@ pub record Breaks
   pub begins : BeginsWith (old.held ++ read) request new.held
   pub unreplied : Unreplied Step RunsOut old.state request new.state
 
--- The effect of one turn: the connection stays open after a request that does not close it, or it ends. If memory ran out,
--- a request was read whose reply was not sent in full, or none was read.
+-- The effect of one turn. `None`: the connection stays open after a request that does not close it. `Some end`: the connection ended.
+-- If memory ran out, the handler's state is unchanged, or a request was read whose reply was not sent in full.
 abbrev pub ServesTurn :
     {S : Type 0} → (S → Request → Reply → S → Type 0) → (S → Request → S → Type 0) → Bool → ConnectionState S → Option End
     → ConnectionState S → Type 0
@@ -82,14 +87,14 @@ ServesTurn Step RunsOut last old (Some WriteFault) new =
     ⊎ ((status : ℕ) × Stops SendsPrefix (λ bytes left. IsBad bytes status) (refusal_text status) old new)
 ServesTurn Step RunsOut last old (Some Memory) new = (new.state ≡ old.state) ⊎ Breaks Step RunsOut old new
 
--- the effect of writing a text; `None` if all of it was sent
+-- the effect of sending a text; `None` if all of it was sent, otherwise the end of the connection
 abbrev pub Writes : List ℕ → Option (List ℕ) → Option End → Option (List ℕ) → Type 0
 Writes text sent None sent_after = Sends sent text sent_after
 Writes text sent (Some WriteFault) sent_after = SendsPrefix sent text sent_after
 Writes text sent (Some Memory) sent_after = ⊤
 Writes text sent (Some end) sent_after = ⊥
 
--- the effect of replying; `None` if the reply was sent in full
+-- the effect of answering a request and sending the reply; `None` if the reply was sent in full, otherwise the end of the connection
 abbrev pub Replied :
     {S : Type 0} → (S → Request → Reply → S → Type 0) → (S → Request → S → Type 0) → Request → Bool → S → S
     → Option (List ℕ) → Option End → Option (List ℕ) → Type 0
@@ -100,7 +105,7 @@ Replied Step RunsOut request close before after sent (Some WriteFault) sent_afte
 Replied Step RunsOut request close before after sent (Some Memory) sent_after = Unreplied Step RunsOut before request after
 Replied Step RunsOut request close before after sent (Some end) sent_after = ⊥
 
--- the effect of refusing
+-- the effect of refusing invalid bytes with this status: the refusal was sent, or a prefix of it if a write failed
 abbrev pub SendsRefusal : ℕ → Option (List ℕ) → End → Option (List ℕ) → Type 0
 SendsRefusal status sent (Refused reported) sent_after = (reported ≡ status) × Sends sent (refusal_text status) sent_after
 SendsRefusal status sent WriteFault sent_after = SendsPrefix sent (refusal_text status) sent_after

@@ -1,11 +1,11 @@
--- One step of the handler: the request, its draw, and the reply.
+-- The effect of handling one request. Each request gets one draw (a time and a random word) of a supply of draws.
 use Rattle.std.specs.Prelude.{◌≡◌, ℕ, ◌+◌, List, Option}
 use Rattle.unl_base.specs.declared.draws.Draw.{Draw}
 use Rattle.unl_base.specs.Draws.{TakesDraw}
 use Rattle.unl_http_api.specs.declared.reply.Reply.{Reply}
 use Rattle.unl_http_api.specs.declared.request.Request.{Request}
 
--- the coming draws, if they are observable
+-- The draws that a supply will return: those of a list, and then a last draw repeated forever. `None` if they aren't observable.
 abbrev pub Coming : Type 0
 Coming = Option (List Draw × Draw)
 
@@ -15,11 +15,12 @@ pub record HandlerState (S : Type 0) : Type 0 where
   pub count : ℕ
   pub coming : Coming
 
--- these three as a record
+-- the `HandlerState` of this state, count of answered requests and coming draws
 abbrev pub handler_state : {S : Type 0} → S → ℕ → Coming → HandlerState S
 handler_state state count coming = record { state = state; count = count; coming = coming }
 
--- a draw was taken, the handler gave this reply to the request with it, and the request was counted
+-- A draw was taken, the handler gave this reply to the request with that draw, and the count of answered requests rose by one. `gives` is
+-- the effect of the handler's answer.
 pub record HandlesRequest
     {S : Type 0} (gives : S → Request → Draw → Reply → S → Type 0)
     (before : HandlerState S) (request : Request) (reply : Reply) (after : HandlerState S) : Type 0 where
@@ -28,7 +29,8 @@ pub record HandlesRequest
   pub given : gives before.state request draw reply after.state
   pub counted : after.count ≡ before.count + 1
 
--- a draw was taken, and then memory ran out; the request was not counted
+-- A draw was taken, and then memory ran out while the request was handled. It was not counted as answered. `out_of_memory` is the effect of
+-- running out of memory on the handler's state.
 pub record RunsOutOfMemory
     {S : Type 0} (out_of_memory : S → Request → Draw → S → Type 0)
     (before : HandlerState S) (request : Request) (after : HandlerState S) : Type 0 where

@@ -1,12 +1,12 @@
--- The links of a door whose links are observable, served one after another.
--- `LinkServed before coming bytes back after coming_after` is the effect of serving one link with these bytes, which came
--- back with what it had sent and its fault count.
+-- Serving the links (connections) that a door (a listener) hands out, one after another, if the bytes of the links are observable.
+-- `LinkServed before coming bytes back after coming_after` is the effect of serving one link: `bytes` are the bytes to be read from it, and
+-- `back` is the pair of the bytes it had sent and its fault count when it was returned to the door.
 use Rattle.std.specs.Prelude.{◌≡◌, ℕ, ◌+◌, List, [], ◌∷◌, ◌++◌, length, Option, Some}
 use Rattle.unl_base.specs.Doors.{DoorState}
 use Rattle.unl_server.specs.Handling.{Coming}
 
--- Links with these bytes were served one after another, beginning with this server and these coming draws, and came back
--- with these sent bytes and fault counts.
+-- Links with these bytes were served one after another, beginning with this server and these coming draws, and were returned with these
+-- sent bytes and fault counts.
 abbrev pub AreServed :
     {S : Type 0} → (S → Coming → List ℕ → List ℕ × ℕ → S → Coming → Type 0) → S → Coming → List (List ℕ) → List (List ℕ × ℕ)
     → S → Coming → Type 0
@@ -26,7 +26,7 @@ pub record Linking (S : Type 0) : Type 0 where
   pub links : Option (List (List ℕ))
   pub returned : Option (List (List ℕ × ℕ))
 
--- these, from a server, the coming draws and a door
+-- the `Linking` of this server, these coming draws and this state of a door
 abbrev pub linking : {S : Type 0} → S → Coming → DoorState → Linking S
 linking server coming door = record {
   server = server;
@@ -37,7 +37,8 @@ linking server coming door = record {
   returned = door.returned;
 }
 
--- the first `served` of these links were handed out, served, and returned in order, behind the links returned before
+-- The first `served` of `links` were handed out, served, and returned in order. Their sent bytes and fault counts were appended to
+-- `returned`, the list of those of the links returned before.
 pub record ServesLinks
     {S : Type 0} (LinkServed : S → Coming → List ℕ → List ℕ × ℕ → S → Coming → Type 0) (before after : Linking S)
     (served : ℕ) (links : List (List ℕ)) (returned : List (List ℕ × ℕ)) : Type 0 where
@@ -50,7 +51,7 @@ pub record ServesLinks
   pub counted : length given_links ≡ served
   pub linked : AreServed LinkServed before.server before.coming given_links backs after.server after.coming
 
--- `served` links were handed out, and as many were returned. If the door's links are observable, each was served.
+-- `served` links were handed out and returned. If the door's links are observable, each of these links was served.
 pub record HandsBack
     {S : Type 0} (LinkServed : S → Coming → List ℕ → List ℕ × ℕ → S → Coming → Type 0) (before after : Linking S)
     (served : ℕ) : Type 0 where

@@ -1,4 +1,4 @@
--- The state of a link. What is not observable is `None`.
+-- The state of a link. A part that is not observable is `None`.
 use Rattle.std.specs.Prelude.{ℕ, List, Option}
 
 -- the bytes that can still be read from a link, the bytes sent to it, and its fault count
@@ -7,6 +7,6 @@ pub record LinkView : Type 0 where
   pub sent : Option (List ℕ)
   pub faults : ℕ
 
--- these three as a record
+-- the `LinkView` of these bytes to come, sent bytes and fault count
 abbrev pub link_view : Option (List ℕ) → Option (List ℕ) → ℕ → LinkView
 link_view left sent faults = record { left = left; sent = sent; faults = faults }

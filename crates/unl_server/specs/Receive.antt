@@ -1,4 +1,4 @@
--- The bytes read from a link, and the item found in them.
+-- Receiving from a link: the bytes that are read, and what is found in them (a request, invalid bytes, or the end).
 use Rattle.std.specs.Prelude.{◌≡◌, ◌≢◌, ℕ, ◌<◌, List, [], ◌++◌, length, Option, Some, None, ⊤}
 use Rattle.unl_base.specs.Streams.{Takes, HasEnded}
 use Rattle.http.specs.StatusCode.{IsStatusCode}
@@ -6,7 +6,8 @@ use Rattle.unl_http_api.specs.Requests.{BeginsWith, IsBad, IsUnfinished}
 use Rattle.unl_server.specs.declared.receive.Received.{Received}
 use Rattle.unl_server.specs.declared.receive.Received.TheVariants.{Request as Whole, Bad, Closed, CutOff, ReadFault, Memory}
 
--- the next item in the bytes, after which the held bytes are left
+-- What was found at the start of `bytes`: a request, after which `held` is left; invalid bytes with the status of their refusal; or bytes
+-- without a whole request, after which the input ended or a read failed. `left` are the bytes that can still be read.
 abbrev pub IsNextItem : List ℕ → Option (List ℕ) → Received → List ℕ → Type 0
 IsNextItem bytes left (Whole request) held = BeginsWith bytes request held
 IsNextItem bytes left (Bad status) held = IsBad bytes status × IsStatusCode status
@@ -15,7 +16,7 @@ IsNextItem bytes left CutOff held = (bytes ≢ []) × IsUnfinished bytes × HasE
 IsNextItem bytes left ReadFault held = IsUnfinished bytes
 IsNextItem bytes left Memory held = ⊤
 
--- Bytes were read from the link and appended to those held, and then this item was next.
+-- Bytes were read from the link and appended to those held, and then `found` was the next item in them.
 pub record Receives
     (held : List ℕ) (left : Option (List ℕ)) (found : Received) (held_after : List ℕ)
     (left_after : Option (List ℕ)) : Type 0 where
@@ -23,7 +24,7 @@ pub record Receives
   pub took : Takes left read left_after
   pub next : IsNextItem (held ++ read) left_after found held_after
 
--- bytes were read from the link and appended to those held, which were not too many
+-- at least one byte was read from the link and appended to those held, which were fewer than 1,056,768 bytes
 pub record ReceivesPiece
     (held : List ℕ) (left : Option (List ℕ)) (held_after : List ℕ) (left_after : Option (List ℕ)) : Type 0 where
   pub piece : List ℕ

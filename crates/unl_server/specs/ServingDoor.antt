@@ -1,5 +1,6 @@
--- The links of a door, served one after another. `Serves before coming link link_after after coming_after` is the effect of
--- serving one link: the server and the coming draws before, the link before and after, the server and the draws after.
+-- Serving the links of a door, one after another. The coming draws are the random draws that the server will use for its next requests.
+-- `Serves before coming link link_after after coming_after` is the effect of serving one link: the server and the coming draws before,
+-- the link before and after, the server and the coming draws after.
 use Rattle.std.specs.Prelude.{◌≡◌, ℕ, zero, suc, Bool, Result, Ok, Err}
 use Rattle.unl_base.specs.declared.Failed.{Failed}
 use Rattle.unl_base.specs.Doors.{DoorState, IsFresh, IsOpenDoor, handing_out, taking_back}
@@ -14,7 +15,7 @@ pub record ServerAndDoor (S : Type 0) : Type 0 where
   pub coming : Coming
   pub door : DoorState
 
--- these three as a record
+-- the `ServerAndDoor` of this server, these coming draws and this state of a door
 abbrev pub server_and_door : {S : Type 0} → S → Coming → DoorState → ServerAndDoor S
 server_and_door server coming door = record { server = server; coming = coming; door = door }
 
@@ -36,7 +37,7 @@ ServesDoorLinks Serves zero before after = after ≡ before
 ServesDoorLinks {S} Serves (suc n) before after =
     (middle : ServerAndDoor S) × ServesDoorLinks Serves n before middle × ServesDoorLink Serves middle after
 
--- one link was served, or none if the door is closed or failed
+-- one link was served; if the door is closed or failed, none was, and nothing changed
 abbrev pub ServesNextLink :
     {S : Type 0} → (S → Coming → LinkView → LinkView → S → Coming → Type 0) → Result LinkOutcome Failed
     → ServerAndDoor S → ServerAndDoor S → Type 0
@@ -44,7 +45,7 @@ ServesNextLink Serves (Ok Served) before after = ServesDoorLink Serves before af
 ServesNextLink Serves (Ok Closed) before after = after ≡ before
 ServesNextLink Serves (Err failed) before after = after ≡ before
 
--- as many links as the result says were served; if the door failed, some number of them
+-- If the door closed, the result is the number of links that were served. If the door failed, some number of links was served before.
 abbrev pub ServesDoor :
     {S : Type 0} → (S → Coming → LinkView → LinkView → S → Coming → Type 0) → Result ℕ Failed
     → ServerAndDoor S → ServerAndDoor S → Type 0

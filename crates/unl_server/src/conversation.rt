@@ -10,8 +10,9 @@ use std::alloc::Global;
 use unl_base::{Draws, Link};
 use unl_http_api::{End, Reader};
 
-/// Serves the requests of a connection until it ends. Each request gets a draw of its own, and a reply. Returns how many
-/// requests were answered, and why the connection ended.
+/// Serves the requests of a connection until it ends, which is after [`MOST_REQUESTS`] requests at the latest. Each
+/// request gets a draw of its own (a time and a random word). Returns how many requests were answered, and why the
+/// connection ended.
 pub fn serve_requests<A: RequestHandler, L: Link, R: Draws>(
     alloc: Global,
     state: &mut A::State,

@@ -1,4 +1,4 @@
-//! Serves the links of a door, one after another.
+//! Serves the links (connections) of a door (a listener), one after another.
 ghost use Rattle.std.specs.Prelude.{◌≡◌, ◌<◌, IfOk, OnOk};
 ghost use Rattle.unl_base.specs.Doors.{IsClosed, IsListening, taking_back};
 ghost use Rattle.unl_base.specs.Faults.{HasCause};
@@ -10,19 +10,21 @@ use std::alloc::Global;
 use std::sync::Wait;
 use unl_base::{Door, Draws, Failed, Link};
 
-/// Serves links, one after another.
+/// A server, which serves links one after another.
 pub trait Server {
     /// The precondition of `serve_link`, which also holds after it.
     ghost fits: { Self → Type 0 };
 
-    /// The relation that every call preserves: at least, the server holds the same references.
+    /// The relation between the server before and after any number of calls. It includes at least that the server still
+    /// holds the same references.
     ghost keeps: { Self → Self → Type 0 };
 
-    /// The effect of serving a link: the server and the coming draws before, the link before and after, the server and the
-    /// draws after.
+    /// The effect of serving a link: it relates the server and the upcoming draws before, the link before and after,
+    /// and the server and the upcoming draws after.
     ghost serves: { Self → Coming → LinkView → LinkView → Self → Coming → Type 0 };
 
-    /// Serves a link, and does what is due between two links. If the link fails, or memory runs out, only this link ends.
+    /// Serves a link, and then does the server's own work after each link, such as passing on the metrics that it
+    /// collected. If the link fails, or memory runs out, only this link ends.
     fn serve_link<L: Link, R: Draws>(&mut self, alloc: Global, link: &mut L, draws: &mut R)
         requires { fits self.old }
         ensures serves { serves self.old (R.coming draws.old)

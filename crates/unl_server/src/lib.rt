@@ -1,5 +1,6 @@
-//! The server. [`serve_requests`] reads the requests of one connection from a link, passes each to the handler, and sends the
-//! replies in order. [`serve_door`] serves the links of a door, one after another.
+//! The server. [`serve_requests`] reads the requests of one connection from a link (a source and a sink of bytes),
+//! passes each to the handler, and sends the replies in order. [`serve_door`] serves the links of a door (a listening
+//! port), one after another.
 #![tactic(auto)]
 
 mod conversation;

@@ -1,4 +1,4 @@
-//! Receives requests from a link.
+//! Receives requests from a link: reads bytes until a request is complete, is invalid, or the input ends.
 ghost use Rattle.std.specs.Prelude.{◌≡◌, ◌<◌, ◌≤◌, ◌==◌, if◌then◌else◌, length};
 ghost use Rattle.unl_base.specs.Faults.{Rose};
 ghost use Rattle.unl_http_api.specs.Requests.{IsUnfinished};
@@ -12,7 +12,7 @@ use unl_http_api::{Next, Reader, Request};
 /// The most bytes per read.
 pub(crate) const PIECE: usize = 16_384;
 
-/// The outcome of receiving.
+/// The outcome of receiving a request.
 #[derive(Drop)]
 pub(crate) enum Received {
     /// A complete request.
@@ -89,7 +89,7 @@ fn read_piece<L: Link>(reader: &mut Reader, link: &mut L, room: &mut [u8]) -> Op
     }
 }
 
-/// How the input ended, given the bytes that are left.
+/// How the input ended: `Closed` if no received byte is left in the reader, otherwise `CutOff`.
 fn ended(reader: &Reader) -> Received
     ensures { result ≡ (if length reader.now == 0 then Received.Closed else Received.CutOff) }
 {

@@ -1,4 +1,4 @@
-//! The handler for the requests of a connection.
+//! The interface of a request handler, which computes the replies to the requests of a connection.
 ghost use Rattle.std.specs.Prelude.{◌<◌, ◌+◌, ℕ, IfOk, OnErr, OnOk};
 ghost use Rattle.http.specs.StatusCode.{IsStatusCode};
 ghost use Rattle.unl_base.specs.declared.draws.Draw.{Draw};
@@ -10,18 +10,20 @@ use unl_base::Draw;
 use unl_documents::Memory;
 use unl_http_api::{Reply, Request};
 
-/// The most requests that are answered on one connection.
+/// The maximum number of requests that are answered on one connection. The last reply closes it.
 pub const MOST_REQUESTS: usize = 1000;
 
-/// Handles the requests of a connection, and records what it must about each.
+/// Handles the requests of a connection: computes the reply to each, and records its effects (such as metrics) in a
+/// state.
 pub trait RequestHandler {
-    /// The state of the handler, which a request may change, with all that it records and sums up.
+    /// The state of the handler, with everything that it records and counts. Each request may change it.
     type State;
 
     /// The precondition of `answer`: the state and the number of requests answered before on the connection.
     ghost fits: { ℕ → Self.State → Type 0 };
 
-    /// The relation that every call preserves: at least, the state holds the same references.
+    /// The relation between the states before and after any number of calls. It includes at least that the state still
+    /// holds the same references.
     ghost keeps: { Self.State → Self.State → Type 0 };
 
     /// The effect of a successful answer: the state before, the request, its draw, the reply, and the state after.

@@ -13,7 +13,8 @@ use unl_base::{Draws, Link};
 use unl_documents::{List, Memory};
 use unl_http_api::{End, Reader, Reply, Request, WriteRefusal, write_500, write_reply};
 
-/// Serves one request. Returns `None` if it was answered and the connection stays open.
+/// Serves one request. Returns `None` if it was answered and the connection stays open, otherwise why the connection
+/// ended. `last`: the reply closes the connection, since its limit of requests is reached.
 pub(crate) fn serve_request<A: RequestHandler, L: Link, R: Draws>(
     alloc: Global,
     reader: &mut Reader,
@@ -64,14 +65,15 @@ pub(crate) fn serve_request<A: RequestHandler, L: Link, R: Draws>(
     }
 }
 
-/// The end that a request asks for, if it does.
+/// `End::Asked` if the request asked to close the connection (`close`), otherwise `None`: the connection stays open.
 fn asked(close: bool) -> Option<End>
     ensures { result ≡ (if close then Some End.Asked else None) }
 {
     if close { Some(End::Asked) } else { None }
 }
 
-/// Passes a request to the handler and sends the reply. Returns `None` if the whole reply was sent.
+/// Passes a request to the handler, counts it as answered, and sends the reply. Returns `None` if the whole reply was
+/// sent, otherwise why the connection ended.
 fn reply_to<A: RequestHandler, L: Link, R: Draws>(
     alloc: Global,
     state: &mut A::State,
@@ -103,7 +105,8 @@ fn reply_to<A: RequestHandler, L: Link, R: Draws>(
     send(alloc, &reply, close, link)
 }
 
-/// Refuses invalid bytes with their status.
+/// Refuses invalid bytes: sends a reply with this status, which closes the connection. Returns why the connection
+/// ended.
 fn refuse<L: Link>(alloc: Global, link: &mut L, status: u16) -> End
     requires { IsStatusCode status }
     ensures refuses { SendsRefusal status (L.sent link.old) result (L.sent link.new) }
@@ -125,7 +128,7 @@ fn refuse<L: Link>(alloc: Global, link: &mut L, status: u16) -> End
     }
 }
 
-/// Sends a reply. Returns `None` if all of it was sent.
+/// Sends a reply. Returns `None` if all of it was sent, otherwise why the connection ended.
 fn send<L: Link>(alloc: Global, reply: &Reply, close: bool, link: &mut L) -> Option<End>
     requires { IsStatusCode reply.now.status }
     ensures writes { Writes (reply_text reply.now close) (L.sent link.old) result (L.sent link.new) }

@@ -3,7 +3,7 @@ use Rattle.unl_base.specs.Doors.{IsListening}
 use Rattle.unl_server.specs.ServingDoor.{ServesDoorLinks, server_and_door}
 use Rattle.unl_server.proofs.door.serve_door.Given as goal
 
--- this many links were served
+-- `served` links were served so far
 abbrev pub invariant-loop-served : goal.invariant-loop-served
 invariant-loop-served g l = record {
   listens : IsListening (g.D.Door.state l.door);

@@ -10,6 +10,6 @@ invariant-loop-received g l = record {
   later : g.L.Source.faults l.initial.link ≤ g.L.Source.faults l.link;
 }
 
--- each turn reads at least one byte, and an unfinished request holds fewer than this
+-- the loop ends: each turn reads at least one byte, and an unfinished request has fewer bytes than this bound
 abbrev pub decreases-loop-received : goal.decreases-loop-received
 decreases-loop-received g l = 1056769 - length l.reader
