@@ -10,7 +10,7 @@ use unl_documents::List;
 use unl_http_api::End;
 use unl_metrics::MetricsBook;
 
-/// The bytes that a connection is sent, how many of its requests are answered, and how it ends.
+/// The outcome of a connection: the bytes that the server sends on it, how many requests are answered, and how it ends.
 type ConnectionCase<'a> = (&'a [u8], usize, End);
 
 /// Returns the desk of a board without tokens.
@@ -29,7 +29,8 @@ fn serve(alloc: Global, link: &mut MemoryLink) -> Option<(usize, End)> {
     Some((served.len(), end))
 }
 
-/// Returns a link to read these bytes from, at most `most` of them at a time. Its calls of these numbers, counted from 0, fail.
+/// Returns a link to read these bytes from, at most `most` of them at a time. The calls of the link (reads and writes)
+/// whose numbers, counted from 0, are in `failing` fail.
 fn link_of(alloc: Global, bytes: &[u8], most: usize, failing: &[u64]) -> Option<MemoryLink>
     requires { 0 < most }
 {
@@ -38,14 +39,15 @@ fn link_of(alloc: Global, bytes: &[u8], most: usize, failing: &[u64]) -> Option<
     MemoryLink::new(alloc, bytes, most, 10_000, failing).ok()
 }
 
-/// Serves a connection on which these bytes come, at most `most` of them at a time. Returns whether it has this outcome.
+/// Serves a connection on which these bytes are received, at most `most` of them at a time. Returns whether it has this
+/// outcome.
 fn has_outcome(alloc: Global, bytes: &[u8], most: usize, outcome: ConnectionCase) -> bool
     requires { 0 < most }
 {
     fails_with(alloc, bytes, most, &[], outcome)
 }
 
-/// As `has_outcome`, for a link whose calls of these numbers fail.
+/// As `has_outcome`, for a link whose calls with the numbers in `failing` fail.
 fn fails_with(
     alloc: Global,
     bytes: &[u8],
@@ -64,7 +66,7 @@ fn fails_with(
     }
 }
 
-/// A request for the health.
+/// A request to the health endpoint.
 const HEALTH: &[u8] = b"GET /internal-backstage/health HTTP/1.1\r\nHost: x\r\n\r\n";
 
 const HEALTHY: ConnectionCase<'static> = (
@@ -73,7 +75,7 @@ const HEALTHY: ConnectionCase<'static> = (
     End::Closed,
 );
 
-/// A request whose body has the text of a request for the health, followed by such a request.
+/// A request whose body is the text of a health request, followed by a health request.
 const REQUEST_IN_A_BODY: &[u8] = b"POST /no HTTP/1.1\r\nHost: x\r\nContent-Length: 52\r\n\r\n\
     GET /internal-backstage/health HTTP/1.1\r\nHost: x\r\n\r\n\
     GET /internal-backstage/health HTTP/1.1\r\nHost: x\r\n\r\n";
@@ -109,7 +111,7 @@ fn a_request_cut_short(rt: HostRuntime) {
     }
 }
 
-/// Two requests, which come in one read.
+/// Two requests, whose bytes are returned by one read.
 const TWO_REQUESTS: &[u8] =
     b"GET /no HTTP/1.1\r\nHost: x\r\n\r\nGET /no HTTP/1.1\r\nHost: x\r\n\r\n";
 
@@ -117,7 +119,8 @@ const BOTH_ANSWERED: &[u8] =
     b"HTTP/1.1 404 Not Found\r\nContent-Type: application/json\r\nContent-Length: 23\r\n\r\n{\"error\":\"NoSuchRoute\"}\
     HTTP/1.1 404 Not Found\r\nContent-Type: application/json\r\nContent-Length: 23\r\n\r\n{\"error\":\"NoSuchRoute\"}";
 
-/// The outcome of the two requests for each call of the link that may fail, and for one that isn't made.
+/// The number of the call of the link that fails, and the outcome of the two requests then. Call 4 is never made, so
+/// that nothing fails in the last case.
 const FAULTS: [(u64, ConnectionCase<'static>); 5] = [
     (0, (b"", 0, End::ReadFault)),
     (1, (b"", 1, End::WriteFault)),
@@ -136,11 +139,11 @@ fn a_link_whose_calls_fail(rt: HostRuntime) {
     }
 }
 
-/// The reply to a request for `/no`, which is no route.
+/// The reply to a request for `/no`, a path that the server does not know.
 const NO_ROUTE: &[u8] =
     b"HTTP/1.1 404 Not Found\r\nContent-Type: application/json\r\nContent-Length: 23\r\n\r\n{\"error\":\"NoSuchRoute\"}";
 
-/// The same reply where the connection ends after it.
+/// The same reply, if the connection is closed after it.
 const NO_ROUTE_AND_CLOSE: &[u8] =
     b"HTTP/1.1 404 Not Found\r\nContent-Type: application/json\r\nContent-Length: 23\r\nConnection: close\r\n\r\n\
     {\"error\":\"NoSuchRoute\"}";
@@ -151,7 +154,7 @@ const LONG_HEAD: ConnectionCase<'static> = (
     End::Refused(431),
 );
 
-/// The bytes that come on a connection, and its outcome.
+/// The bytes that are received on a connection, and its outcome.
 const ENDS: [(&[u8], ConnectionCase<'static>); 9] = [
     (b"GET /no HTTP/1.1\r\nHost: x\r\n", CUT_OFF),
     (
@@ -192,7 +195,8 @@ fn ends(rt: HostRuntime) {
     }
 }
 
-/// The fields after `Host` of a request with the body `abcde` that is refused, the status line of the refusal, and its status.
+/// Requests that are refused: the header fields after `Host` of a request with the body `abcde`, the rest of the
+/// refusal's status line after the version, and its status.
 const REFUSED: [(&str, &str, u16); 10] = [
     ("Transfer-Encoding: chunked", "411 Length Required", 411),
     (
@@ -226,7 +230,8 @@ const REFUSED: [(&str, &str, u16); 10] = [
     ),
 ];
 
-/// Serves a connection on which a request with these fields and the body `abcde` comes. Returns whether it is refused so.
+/// Serves a connection on which a request with these header fields and the body `abcde` is received. Returns whether it
+/// is refused with this status line and status.
 fn is_refused(alloc: Global, fields: &str, line: &str, status: u16) -> Option<bool> {
     let request = format!(in alloc; "POST /no HTTP/1.1\r\nHost: x\r\n{fields}\r\n\r\nabcde").ok()?;
     let reply = format!(in alloc;
@@ -244,7 +249,8 @@ fn refusals(rt: HostRuntime) {
     }
 }
 
-/// Returns the beginning of a request for the health, padded by a long field to this length, with this end.
+/// Returns the start of a health request, `length` bytes long: a header field of repeated letters fills it up to the
+/// bytes `end`.
 fn head_of(alloc: Global, length: usize, end: &[u8]) -> Option<Vec<u8>> {
     let mut bytes = HEALTH.get(..HEALTH.len() - 2)?.to_vec(alloc).ok()?;
     bytes.extend_from_slice(b"X: ").ok()?;
@@ -253,7 +259,7 @@ fn head_of(alloc: Global, length: usize, end: &[u8]) -> Option<Vec<u8>> {
     Some(bytes)
 }
 
-/// The length of a request's head, how it ends, and the outcome.
+/// The number of bytes received of a request's head, the last of these bytes, and the outcome.
 const HEADS: [(usize, &[u8], ConnectionCase<'static>); 4] = [
     (8_191, b"", CUT_OFF),
     (8_192, b"", LONG_HEAD),

@@ -7,7 +7,7 @@ use std::alloc::Global;
 use std::sync::Wait;
 use unl_workers::{LinkQueue, LinkState, Popped, QueuePass};
 
-/// Puts a link into both queues, unless they are full.
+/// Puts a link into the queue and its model, unless they are full.
 fn put_one<W: Wait>(
     rt: &W,
     queue: &LinkQueue<u64>,
@@ -68,7 +68,7 @@ fn take_one<W: Wait>(
     }
 }
 
-/// Takes from both queues this many times. Returns whether both returned the same each time.
+/// Takes from both queues `times` times. Returns whether both returned the same each time.
 fn take_both<W: Wait>(
     rt: &W,
     queue: &LinkQueue<u64>,
@@ -90,8 +90,8 @@ fn take_both<W: Wait>(
     true
 }
 
-/// Puts links into both queues and takes links out of them in turn, also when they are full, empty or closed. Returns whether both
-/// always returned the same, or `None` if out of memory.
+/// Puts links into both queues and takes links out of them, also when they are full, empty or closed. Returns whether
+/// both always returned the same, or `None` if out of memory.
 fn agree<W: Wait>(rt: &W, alloc: Global) -> Option<bool> {
     let Ok((queue, mut pass)) = LinkQueue::new(alloc) else {
         return None;

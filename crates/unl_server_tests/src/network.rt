@@ -1,4 +1,5 @@
-//! Tests of what a peer logs and how long it waits, over a network that follows a script; and of a program's draws.
+//! Tests of what a peer logs and how long it waits for a server, over a network that follows a script; and a test that
+//! programs draw different random words.
 use std::cell::Cell;
 use std::fmt::{Display, InlineText};
 use std::io::{self, ErrorKind, Read, Write};
@@ -8,18 +9,19 @@ use std::time::{Clock, Duration};
 use unl_base::{Draws, Failed, Peer, Sink, Source};
 use unl_net::{RealPeer, SystemDraws};
 
-/// The result of a read of a stream.
+/// The result of one read of a scripted stream.
 #[derive(Clone, Copy)]
 enum Step {
-    /// It returns these bytes.
+    /// The read returns these bytes.
     Bytes(&'static str),
-    /// A signal interrupts it.
+    /// A signal interrupts the read.
     Signal,
-    /// It fails: the other side has reset the connection.
+    /// The read fails: the other side has reset the connection.
     Reset,
 }
 
-/// A stream whose reads have these results, one after another, and then find its end. It takes whatever is written.
+/// A stream whose reads have the results `steps`, one after another, and then return the end of the stream. Each write
+/// takes all bytes.
 #[derive(Drop)]
 struct ScriptedStream {
     steps: &'static [Step],
@@ -83,8 +85,9 @@ impl OpenListener for NoListener {
     }
 }
 
-/// A network that follows a script, with its own clock and log. The first connects succeed: one for each of `replies`, which are
-/// what the reads of their streams have. Further connects are refused. While it hangs, a connect takes all of its time limit and fails.
+/// A network that follows a script, with its own clock and log. Connect number n succeeds with a stream whose reads
+/// have the results `replies[n]`; connects after the last of `replies` are refused. While `hangs` is set, a connect
+/// takes all of its time limit and fails.
 #[derive(Drop)]
 struct ScriptedNet {
     seconds: Cell<u64>,
@@ -94,7 +97,7 @@ struct ScriptedNet {
     replies: &'static [&'static [Step]],
 }
 
-/// Creates a network whose streams have these replies.
+/// Creates a network whose connects succeed once for each of `replies`.
 fn net_of(replies: &'static [&'static [Step]]) -> ScriptedNet {
     ScriptedNet {
         seconds: Cell::new(0),
@@ -155,7 +158,8 @@ impl Eprint for ScriptedNet {
     }
 }
 
-/// Writes a request to a peer, and reads twice. Returns the results of the write and of the first read.
+/// Writes a request to a peer, and reads twice. Returns the results of the write and of the first read. Does nothing if
+/// the request is empty.
 fn exchange<P: Peer>(
     peer: &mut P,
     request: &[u8],
@@ -170,18 +174,18 @@ fn exchange<P: Peer>(
     (written, read)
 }
 
-/// A request for a delta.
+/// A request for a delta of the flags, with a token.
 const DELTA: &[u8] =
     b"GET /api/client/delta?a=b HTTP/1.0\r\nHost: h\r\nAuthorization: *:dev.secret\r\n\r\n";
 
-/// The same with another token.
+/// The same request with another token.
 const OTHER_DELTA: &[u8] =
     b"GET /api/client/delta?a=b HTTP/1.0\r\nHost: h\r\nAuthorization: *:prod.secret\r\n\r\n";
 
-/// A request for the token book.
+/// A request that asks which tokens are valid, for the token book.
 const BOOK: &[u8] = b"POST /edge/validate HTTP/1.0\r\nHost: h\r\n\r\n{}";
 
-/// A reply in two pieces. Only the first one has its status.
+/// A reply in two pieces. The status is in the first one; the second one only looks like a status line.
 const FORBIDDEN: &[Step] = &[
     Step::Bytes("HTTP/1.1 403 Forbidden\r\n"),
     Step::Bytes("HTTP/1.1 500 "),
@@ -220,7 +224,7 @@ const REPLIES: [&[Step]; 10] = [
     SUCCESS,
 ];
 
-/// What the peer logs.
+/// The lines that the peer logs for these requests and replies, and for the connects after them.
 const PEER_LINES: &str = "upstream 127.0.0.1:7: GET /api/client/delta: 403
 upstream 127.0.0.1:7: GET /api/client/delta: 200, but not taken
 upstream 127.0.0.1:7: GET /api/client/delta: 304
@@ -258,7 +262,8 @@ fn a_server_that_hangs_is_waited_for_once(rt: HostRuntime) {
     assert!(rt; (peer.connect(), net.connects.get()) == (Err(Failed), 1));
     net.seconds.set(35);
     assert!(rt; peer.connect() == Ok(()));
-    // An exchange fails thirty seconds after its connect, and then too the server is not asked for a while.
+    // An exchange that lasts 30 seconds after its connect fails too. For the next 5 seconds each connect fails at
+    // once.
     net.seconds.set(65);
     assert!(rt; exchange(&mut peer, BOOK) == (Err(Failed), Err(Failed)));
     assert!(rt; peer.connect() == Err(Failed));

@@ -156,12 +156,12 @@ impl Door for TestDoor {
     ghost within = { λ door. door.in_order };
 }
 
-/// Returns a slot whose worker has counted no link.
+/// Returns a worker slot whose handler has counted no link.
 fn slot(alloc: Global) -> WorkerSlot<Counting, ListDraws> {
     WorkerSlot::new(Counting { links: 0 }, ListDraws::new(Vec::new(alloc)))
 }
 
-/// Returns the number of links that the workers counted.
+/// Returns the number of links that the handlers of all slots counted.
 fn links_counted(slots: &[WorkerSlot<Counting, ListDraws>]) -> u64 {
     let mut links = 0u64;
     for slot in slots {
