@@ -1,4 +1,4 @@
--- A report that is built test by test is the report of all tests.
+-- A report that is built one test at a time equals the report of all tests.
 use Rattle.std.proofs.Common.{◌≡◌, ℕ, ◌+◌, List, [], ◌∷◌, ◌++◌, map, Bool, true, false, cond, not, refl, sym, ap, ◌∙◌, arith, append_assoc, append-nil}
 use Rattle.std.specs.List.{flat_map, count_by}
 use Rattle.std.proofs.lemmas.List.{map-append}
@@ -10,7 +10,7 @@ use Rattle.unl_spec_runner.specs.declared.document.TestFile.{TestFile}
 use Rattle.unl_spec_runner.specs.Report.{Report, Case, case_of, cases_of, line_of, lines_from, given, passes, fails, report_of_cases, report_of_files}
 use Rattle.unl_spec_runner.specs.Steps.{none_yet, with_line, with_case, with_tests, with_file, with_files, with_counts}
 
--- The report after the given cases, one by one.
+-- The report after the given cases, which are added one by one.
 abbrev with_cases : Draw → List Case → Report → Report
 with_cases draw [] r = r
 with_cases draw (c ∷ cs) r = with_cases draw cs (with_case draw c r)
@@ -49,7 +49,7 @@ report text passed failed = record { text = text; passed = passed; failed = fail
 report_is : (t u : List ℕ) (p q f g : ℕ) → t ≡ u → p ≡ q → f ≡ g → report t p f ≡ report u q g
 report_is t u p q f g text passed failed = λ i. report (text i) (passed i) (failed i)
 
--- The report after the given cases, all at once.
+-- The report after the given cases, which are added all at once.
 abbrev added : Draw → Report → List Case → Report
 added draw r cs = record {
   text = r.text ++ lines_from (r.passed + r.failed + 1) draw cs;
@@ -60,7 +60,7 @@ added draw r cs = record {
 abbrev one : Bool → ℕ
 one b = cond b 1 0
 
--- The line of a case is appended and counted before the others.
+-- Adding one case and then the others results in the same report as adding all of them at once.
 one_added : (draw : Draw) (line : List ℕ) (b : Bool) (cs : List Case) (t : List ℕ) (p f : ℕ)
     → added draw (with_line line b (record { text = t; passed = p; failed = f })) cs ≡ record {
       text = t ++ (line ++ lines_from (p + f + 1 + 1) draw cs);

@@ -1,2 +1,2 @@
--- How a check ends if the input is refused.
+-- The effect of a check whose input is refused.
 use Rattle.unl_input.specs.declared.refusal.InputRefusal.TheVariants as refusal

@@ -1,4 +1,4 @@
--- The check of an input of test files: its report, or why the input is refused, and what is sent.
+-- The result of checking an input of test files, and the text that is sent.
 use Rattle.std.specs.Prelude.{◌≡◌, ℕ, List, Option, Result, Ok, Err}
 use Rattle.unl_base.specs.declared.draws.Draw.{Draw}
 use Rattle.unl_documents.specs.Reading.{Reading, ◌>>=◌}
@@ -11,13 +11,13 @@ use Rattle.unl_spec_runner.specs.declared.fault.Summary.{Summary}
 use Rattle.unl_spec_runner.specs.Report.{Report, report_of_files}
 use Rattle.unl_spec_runner.specs.TestFile.{files_in}
 
--- The report of the files that an input spells, or its first fault.
+-- The report of the test files in an input, or the first fault of the input.
 unfoldable pub report_reading : Draw → List ℕ → Reading Report
 report_reading draw bytes = do
   files ← files_in bytes
   Ok (report_of_files draw files)
 
--- The report of an input, or its refusal. The size of the input is checked first.
+-- The report of an input, or why the input is refused. The size of the input is checked first.
 abbrev pub report_of : Draw → List ℕ → InputOutcome Report
 report_of draw bytes = input_outcome (report_reading draw) bytes
 
@@ -25,7 +25,7 @@ report_of draw bytes = input_outcome (report_reading draw) bytes
 abbrev pub text_of : Report → List ℕ
 text_of report = report.text
 
--- The check's fault for a refusal.
+-- The error of the check for a refusal of its input.
 abbrev pub fault_of : InputRefusal → CheckFault
 fault_of (refusal.BadInput fault) = BadFile fault
 fault_of refusal.TooLarge = TooLarge
@@ -37,8 +37,8 @@ pub record ReportsAll (draw : Draw) (summary : Summary) (left left_after old new
   pub passed : summary.passed ≡ report.passed
   pub failed : summary.failed ≡ report.failed
 
--- How a check ends, in terms of the source's remaining bytes and the sink's sent bytes, before and after. Applies whether or
--- not the source's bytes are observable. If the input is refused, nothing was sent.
+-- The effect of a check, by its result. `left` and `left_after` are the bytes still to be read from the source before and
+-- after, and `old` and `new` are the bytes sent to the sink before and after. If the input is refused, nothing was sent.
 abbrev pub Checks : Result Summary CheckFault → Draw → Option (List ℕ) → Option (List ℕ) → Option (List ℕ) → Option (List ℕ) → Type 0
 Checks (Ok summary) draw left left_after old new = ReportsAll draw summary left left_after old new
 Checks (Err (BadFile fault)) draw left left_after old new =

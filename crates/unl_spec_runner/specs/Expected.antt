@@ -12,7 +12,7 @@ use Rattle.unl_spec_runner.specs.declared.expected.Expected.{Expected}
 use Rattle.unl_spec_runner.specs.declared.expected.Expected.TheVariants.{Result, Variant}
 use Rattle.unl_spec_runner.specs.declared.expected.ExpectedVariant.{ExpectedVariant}
 
--- The actual variant of an evaluation. It includes whether the feature is on only if that is compared.
+-- The actual variant of an evaluation. Whether the feature is on is included only if the test compares it.
 unfoldable pub variant_given : ExpectedVariant → Evaluation → ExpectedVariant
 variant_given v e = record {
   name = e.variant.name;

@@ -1,4 +1,4 @@
--- The report of test files: a line for each test, numbered across the whole input, and both counts at the end.
+-- The report of test files: a line for each test, numbered across the whole input, and a line with the counts at the end.
 use Rattle.std.specs.Prelude.{ℕ, ◌+◌, List, [], ◌∷◌, ◌++◌, codes, decimal, map, Bool, not, unwrap_or, if◌then◌else◌}
 use Rattle.std.specs.List.{flat_map, count_by}
 use Rattle.serde_json.specs.Data.{string}
@@ -13,18 +13,18 @@ use Rattle.unl_spec_runner.specs.declared.document.Test.{Test}
 use Rattle.unl_spec_runner.specs.declared.document.TestFile.{TestFile}
 use Rattle.unl_spec_runner.specs.Expected.{given_as, agrees, expected_text}
 
--- The text, and the number of tests that passed and of those that failed.
+-- A report: its text, and the number of tests that passed and of those that failed.
 pub record Report : Type 0 where
   pub text : List ℕ
   pub passed : ℕ
   pub failed : ℕ
 
--- A test, with its state.
+-- A test, with the state of its file.
 pub record Case : Type 0 where
   pub state : State
   pub test : Test
 
--- The moment of a draw, without a host name.
+-- The moment of an evaluation with this draw. The host name is empty.
 abbrev pub moment_of : Draw → Moment
 moment_of draw = record { now = draw.now; word = draw.word; host = [] }
 

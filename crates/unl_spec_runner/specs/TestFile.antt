@@ -1,4 +1,5 @@
--- Test files in the format of the Unleash client specification: the keys of each object in order, each with its kind.
+-- How test files in the format of the Unleash client specification are parsed: the keys of each object in order, each with its
+-- kind.
 use Rattle.std.specs.Prelude.{ℕ, List, [], ◌∷◌, Bool, Option, Ok, ok_or}
 use Rattle.std.specs.Option.{option_or, option_map_or}
 use Rattle.serde_json.specs.Data.{Data}
@@ -19,7 +20,7 @@ use Rattle.unl_spec_runner.specs.declared.document.TestFile.{TestFile}
 
 -- ---- tests
 
--- Whether the feature is expected to be on: from the key's first spelling, or else from its second.
+-- Whether the feature is expected to be on: the value at `feature_enabled`, or else at `featureEnabled`.
 unfoldable pub feature_enabled_in : Data → Reading (Option Bool)
 feature_enabled_in value = do
   first ← optional truth field.FeatureEnabled value
@@ -47,7 +48,7 @@ expected_variant value = do
   v ← required (object_of expected_variant_of) field.ExpectedResult value
   Ok (Variant v)
 
--- A test whose expected result is read as given.
+-- A test. Its expected result is parsed by `expected_in`.
 unfoldable pub test_of : (Data → Reading Expected) → Data → Reading Test
 test_of expected_in value = do
   description ← defaulted [] (text 65536) field.Description value
@@ -58,12 +59,11 @@ test_of expected_in value = do
 
 -- ---- files
 
--- The size limit of an input. An input can't contain more tests than it may have bytes, so their number has no limit of its
--- own.
+-- The largest number of tests of a file. It equals the size limit of an input in bytes, so no input can exceed it.
 abbrev pub most_tests : ℕ
 most_tests = 16777216
 
--- A test file.
+-- A test file: an optional name, which is not used, a state, and the tests of features and of variants.
 unfoldable pub file_of : Data → Reading TestFile
 file_of value = do
   named ← defaulted [] any_text field.Name value
@@ -84,10 +84,10 @@ alone file = Ok (file ∷ [])
 unfoldable pub file_alone : Data → Reading (List TestFile)
 file_alone value = document file_of value >>= alone
 
--- The files that a value spells: an array of files, or a single file.
+-- The test files that are parsed from a JSON value: an array of files, or a single file.
 unfoldable pub files_of : Data → Reading (List TestFile)
 files_of value = option_map_or (each (document file_of)) (as_array value) (file_alone value)
 
--- The files that an input spells.
+-- The test files that are parsed from an input, or its first fault.
 unfoldable pub files_in : List ℕ → Reading (List TestFile)
 files_in bytes = ok_or (json_of bytes) NotJson >>= files_of

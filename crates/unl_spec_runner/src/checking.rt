@@ -1,4 +1,4 @@
-//! Checks an input of test files.
+//! Checks an input: reads its test files, runs their tests and writes the report.
 ghost use Rattle.std.specs.Prelude.{◌≡◌, ◌≢◌, ◌≤◌, Err, IsErrOf};
 ghost use Rattle.unl_base.specs.Faults.{Rose};
 ghost use Rattle.unl_spec_runner.specs.Check.{Checks, report_reading, fault_of, text_of};
@@ -12,9 +12,9 @@ use unl_base::{Draw, Sink, Source};
 use unl_documents::BadDocument;
 use unl_input::{AnswerFault, InputAnswer, InputRefusal, answer_input};
 
-/// Reads test files to the end of the source, evaluates their tests at the moment and with the random word of the draw, and
-/// writes the report: a line for each test, then both counts. Nothing is written before the whole input is read and
-/// accepted.
+/// Reads test files to the end of the source, runs their tests at the time and with the random word of `draw`, and
+/// writes the report: a line for each test, then a line with the counts of passed and failed tests. Nothing is written
+/// before the whole input is read and accepted.
 ///
 /// # Errors
 /// - `TooLarge` if the input has more than 16,777,216 bytes. Nothing is written.
@@ -39,7 +39,7 @@ pub fn check<S: Source, K: Sink>(
     ensures write { IsErrOf result CheckFault.WriteFault → Rose (K.faults sink.old) (K.faults sink.new) }
     ensures source_later { S.faults source.old ≤ S.faults source.new }
     ensures sink_later { K.faults sink.old ≤ K.faults sink.new }
-    // A failed read is never returned as out of memory.
+    // If the result is `Memory`, the fault count of the source is unchanged.
     ensures untouched { IsErrOf result CheckFault.Memory → S.faults source.new ≡ S.faults source.old }
 {
     match answer_input::<Checking, S, K>(alloc, &Checking { draw: *draw }, source, sink) {
@@ -51,7 +51,7 @@ pub fn check<S: Source, K: Sink>(
     }
 }
 
-/// Converts a refusal to a fault of the check.
+/// Converts a refusal of the input to the error of [`check`].
 fn fault_of(refusal: InputRefusal) -> CheckFault
     ensures { result ≡ fault_of refusal }
 {
@@ -61,7 +61,7 @@ fn fault_of(refusal: InputRefusal) -> CheckFault
     }
 }
 
-/// The computation that turns an input into the report of its test files, at the moment of a draw.
+/// The computation that turns an input into the report of its test files, with a draw.
 #[derive(Drop)]
 struct Checking {
     draw: Draw,

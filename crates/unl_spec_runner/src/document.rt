@@ -1,4 +1,4 @@
-//! Test files in the format of the Unleash client specification.
+//! Parses test files in the format of the Unleash client specification.
 ghost use Rattle.std.specs.Prelude.{Result, IfOk, All};
 ghost use Rattle.serde_json.specs.Data.{Data};
 ghost use Rattle.serde_json.specs.View.{view};
@@ -24,11 +24,10 @@ use unl_documents::parsing::read_json;
 use unl_documents::{BadDocument, Field, List, Payload, State, Text};
 use unl_input::context_in;
 
-/// The size limit of an input. An input can't contain more tests than it may have bytes, so their number has no limit of its
-/// own.
+/// The largest number of tests of a file. It equals the size limit of an input in bytes, so no input can exceed it.
 const MOST_TESTS: usize = 16_777_216;
 
-/// A test of a feature or of its variant.
+/// A test: the evaluation of a feature for a context, with the expected result.
 #[derive(Debug, Drop)]
 pub struct Test {
     /// The description, of at most 65,536 bytes.
@@ -52,20 +51,20 @@ pub struct TestFile {
     pub variant_tests: List<Test>,
 }
 
-/// A kind of expected result.
+/// A kind of test, which determines how its expected result is parsed.
 pub trait Expects {
-    // The expected result of a test.
+    // The expected result that is parsed from a test.
     ghost expected_in: { Data → Result Expected BadDocument };
 
-    /// Reads the expected result of a test.
+    /// Parses the expected result of a test.
     ///
     /// # Errors
-    /// Those of the value at `expectedResult`.
+    /// The faults of the value at `expectedResult`, or out of memory.
     fn read_expected(alloc: Global, test: &Value) -> Result<Expected, BadDocument>
         ensures { Gives result (expected_in (view test.now)) };
 }
 
-/// The expected result is whether the feature is on.
+/// A test that expects the feature to be on or off.
 pub struct ResultTest;
 
 impl Expects for ResultTest {
@@ -78,7 +77,7 @@ impl Expects for ResultTest {
     }
 }
 
-/// The expected result is a variant.
+/// A test that expects a variant.
 pub struct VariantTest;
 
 impl Expects for VariantTest {
@@ -111,7 +110,7 @@ impl Document for ExpectedVariant {
     }
 }
 
-/// Reads whether the feature is expected to be on: from `feature_enabled`, or else from `featureEnabled`.
+/// Parses whether the feature is expected to be on: the value at `feature_enabled`, or else at `featureEnabled`.
 #[tactic(auto, unfolding(crate::specs::TestFile::feature_enabled_in))]
 fn feature_enabled_in(alloc: Global, value: &Value) -> Result<Option<bool>, BadDocument>
     ensures { Gives result (feature_enabled_in (view value.now)) }
@@ -121,7 +120,7 @@ fn feature_enabled_in(alloc: Global, value: &Value) -> Result<Option<bool>, BadD
     Ok(first.or(second))
 }
 
-/// A test with this kind of expected result.
+/// Parses a test of the kind `E` from JSON.
 struct TestOf<E>(PhantomData<E>);
 
 impl<E: Expects> Kind for TestOf<E> {
@@ -154,6 +153,7 @@ impl<E: Expects> Item for TestOf<E> {
     }
 }
 
+/// Parses a test of the kind `E` from a JSON object. The description is empty if it is absent.
 #[tactic(auto, unfolding(crate::specs::TestFile::test_of))]
 fn read_test<E: Expects>(alloc: Global, value: &Value) -> Result<Test, BadDocument>
     ensures { Gives result (test_of E.expected_in (view value.now)) }
@@ -196,7 +196,7 @@ impl Document for TestFile {
     }
 }
 
-/// A test file that is a whole document.
+/// Parses a test file that is an item of an array. An item that isn't an object is `NotJson`, as for a single file.
 struct WholeFile;
 
 impl Kind for WholeFile {
@@ -225,7 +225,7 @@ impl Item for WholeFile {
     }
 }
 
-/// Reads the files that a value spells: an array of files, or a single file.
+/// Parses the test files in a JSON value: an array of files, or a single file.
 #[tactic(auto, unfolding(crate::specs::TestFile::files_of))]
 fn files_of(alloc: Global, value: &Value) -> Result<List<TestFile>, BadDocument>
     ensures gives { Gives result (files_of (view value.now)) }
@@ -237,7 +237,7 @@ fn files_of(alloc: Global, value: &Value) -> Result<List<TestFile>, BadDocument>
     }
 }
 
-/// Reads a single file that is the whole input.
+/// Parses a single file that is the whole input.
 #[tactic(auto, unfolding(crate::specs::TestFile::file_alone))]
 fn file_alone(alloc: Global, value: &Value) -> Result<List<TestFile>, BadDocument>
     ensures gives { Gives result (file_alone (view value.now)) }
@@ -249,7 +249,8 @@ fn file_alone(alloc: Global, value: &Value) -> Result<List<TestFile>, BadDocumen
     Ok(files)
 }
 
-/// Reads the files that an input spells.
+/// Parses the test files in an input: a JSON array of files, or a single file. The error is the first fault, or out of
+/// memory.
 #[tactic(auto, unfolding(crate::specs::TestFile::files_in))]
 pub fn files_in(alloc: Global, bytes: &[u8]) -> Result<List<TestFile>, BadDocument>
     ensures gives { Gives result (files_in bytes.now) }

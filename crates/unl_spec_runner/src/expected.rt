@@ -1,4 +1,4 @@
-//! Expected and actual results of tests.
+//! Expected and actual results of tests: their comparison and their JSON text.
 ghost use Rattle.std.specs.Prelude.{◌≡◌, false, IfOk, string_bytes, option_map};
 ghost use Rattle.serde_json.specs.View.{view};
 ghost use Rattle.serde_json.specs.Written.{compact_text, has_float};
@@ -29,12 +29,13 @@ pub struct ExpectedVariant {
     pub enabled: bool,
     /// The variant's payload for the application, if it has one.
     pub payload: Option<Payload>,
-    /// Whether the feature is on. Absent if that is not compared.
+    /// Whether the feature is on, or `None` if the test does not compare that.
     pub feature_enabled: Option<bool>,
 }
 
 impl Expected {
-    /// Converts an evaluation to the actual result, in the form of the expected one.
+    /// Converts an evaluation to the actual result, in the form of this expected result. The only error is out of
+    /// memory.
     #[tactic(auto, unfolding(crate::specs::Expected::given_as))]
     pub fn given_as(&self, alloc: Global, evaluation: &Evaluation) -> Result<Expected, Memory>
         ensures { IfOk result (λ given. given ≡ given_as self.now evaluation.now) }
@@ -59,7 +60,7 @@ impl Expected {
         }
     }
 
-    /// Returns the JSON text of the result.
+    /// Returns the JSON text of the result. The only error is out of memory.
     pub fn text(&self, alloc: Global) -> Result<String, Memory>
         ensures { IfOk result (λ s. string_bytes s ≡ expected_text self.now) }
     {
@@ -79,7 +80,8 @@ impl Expected {
 }
 
 impl ExpectedVariant {
-    /// Returns the actual variant of an evaluation. It includes whether the feature is on only if that is compared.
+    /// Converts an evaluation to the actual variant. Whether the feature is on is included only if the test compares
+    /// it.
     #[tactic(auto, unfolding(crate::specs::Expected::variant_given))]
     fn given(&self, alloc: Global, evaluation: &Evaluation) -> Result<ExpectedVariant, Memory>
         ensures { IfOk result (λ given. given ≡ variant_given self.now evaluation.now) }
@@ -120,7 +122,7 @@ impl ExpectedVariant {
     }
 }
 
-/// Returns the actual value if it is compared.
+/// Returns the actual value, or `None` if the test does not compare it.
 fn in_place_of(compared: &Option<bool>, given: bool) -> Option<bool>
     ensures { result ≡ option_map (λ _. given) compared.now }
 {
@@ -130,6 +132,7 @@ fn in_place_of(compared: &Option<bool>, given: bool) -> Option<bool>
     }
 }
 
+/// Whether both payloads are absent, or both are present with the same type and the same value.
 fn payloads_agree(expected: &Option<Payload>, given: &Option<Payload>) -> bool
     ensures { result ≡ options_agree payloads_agree expected.now given.now }
 {

@@ -1,20 +1,20 @@
-//! The outcomes of a check.
+//! The results of a check: its summary or its error.
 use thiserror::Error;
 use unl_documents::BadDocument;
 
-/// The number of tests that passed and of those that failed.
+/// The number of tests that passed, and of tests that failed.
 #[derive(Clone, Copy, Debug, PartialEq, Eq)]
 pub struct Summary {
-    /// The tests whose actual result is the expected one.
+    /// The number of tests whose actual result is the expected one.
     pub passed: u64,
-    /// The other tests.
+    /// The number of all other tests.
     pub failed: u64,
 }
 
 /// Why a check has no summary.
 #[derive(Debug, Drop, PartialEq, Error)]
 pub enum CheckFault {
-    /// The input has this fault, its first. It is never `Memory`.
+    /// The first fault of the input. It is never `Memory`.
     #[error("the file is not accepted")]
     BadFile(BadDocument),
     /// The input has more than 16,777,216 bytes.

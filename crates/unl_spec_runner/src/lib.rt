@@ -1,5 +1,5 @@
-//! The command `check`: evaluates features of a state for the contexts in a test file, which has the format of the Unleash
-//! client specification, and compares each result with the expected one.
+//! The command `check`: runs the tests of test files, which have the format of the Unleash client specification. A test
+//! evaluates a feature of a state for a context and compares the result with the expected one.
 #![tactic(auto)]
 
 mod checking;

@@ -8,7 +8,7 @@ use std::alloc::{AllocError, Global};
 use std::marker::Model;
 use unl_documents::Memory;
 
-/// The text so far, and the number of tests that passed and of those that failed.
+/// A report: the text so far, and the number of tests that passed and of those that failed.
 #[derive(Debug, Drop)]
 pub struct Report {
     printed: Vec<u8>,
@@ -24,7 +24,7 @@ impl Model for Report {
 
     ghost view = { λ r. record { text = r.printed.items; passed = r.passed; failed = r.failed } };
 
-    // Each test has a line, and no line is empty.
+    // Each test has a line of at least one byte, so the counts fit 64 bits.
     ghost invariant = { λ r. r.passed + r.failed ≤ length r.printed.items };
 }
 
@@ -47,7 +47,7 @@ impl Report {
         &self.printed
     }
 
-    /// Returns both counts.
+    /// Returns the number of tests that passed, and of those that failed.
     pub fn summary(&self) -> Summary
         ensures passed { result.passed ≡ self.now.passed }
         ensures failed { result.failed ≡ self.now.failed }
@@ -65,7 +65,7 @@ impl Report {
         self.passed + self.failed + 1
     }
 
-    /// Appends the line of a test, and counts the test.
+    /// Appends the line of a test and counts the test as passed or failed. The only error is out of memory.
     pub fn add_line(&mut self, line: &[u8], passed: bool) -> Result<(), Memory>
         requires { 0 < length line.now }
         ensures { OnOk result (self.new ≡ with_line line.now passed self.old) }
@@ -79,7 +79,7 @@ impl Report {
         Ok(())
     }
 
-    /// Appends the line with the counts.
+    /// Appends the line with the counts. The only error is out of memory.
     pub fn add_counts(&mut self, alloc: Global) -> Result<(), Memory>
         ensures { OnOk result (self.new ≡ with_counts self.old) }
     {
@@ -89,6 +89,7 @@ impl Report {
     }
 }
 
+/// Returns the line with the counts.
 #[tactic(auto, unfolding(crate::specs::Report::counts_line))]
 fn counts_line(alloc: Global, passed: u64, failed: u64) -> Result<String, AllocError>
     ensures { IfOk result (λ s. string_bytes s ≡ counts_line passed failed) }

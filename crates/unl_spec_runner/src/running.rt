@@ -16,7 +16,7 @@ use unl_dependencies::{Evaluation, VariantAnswer, evaluate};
 use unl_documents::{Memory, State, Text};
 use unl_strategies::Moment;
 
-/// Returns the report of files, with the counts at its end.
+/// Runs the tests of all files and returns the report, with the counts at its end. The only error is out of memory.
 #[tactic(auto, using(crate::proofs::Counting::all_counted))]
 pub fn report_files(alloc: Global, files: &[TestFile], draw: &Draw) -> Result<Report, Memory>
     requires { All IsValidFile files.now }
@@ -28,6 +28,7 @@ pub fn report_files(alloc: Global, files: &[TestFile], draw: &Draw) -> Result<Re
     Ok(report)
 }
 
+/// Runs the tests of the files, in their order.
 #[tactic(auto, unfolding(crate::specs::Steps::with_files))]
 fn run_files(
     alloc: Global,
@@ -60,6 +61,7 @@ fn run_file(alloc: Global, report: &mut Report, file: &TestFile, draw: &Draw) ->
     )
 }
 
+/// Runs tests in a state, in their order.
 #[tactic(auto, unfolding(crate::specs::Steps::with_tests))]
 fn run_tests(
     alloc: Global,
@@ -135,7 +137,8 @@ fn off(alloc: Global) -> Result<Evaluation, Memory>
     })
 }
 
-/// Returns the line of a test.
+/// Returns the line of a test: `pass` or `fail`, its number and its description. A failed test also has the expected
+/// and the actual result.
 #[tactic(auto, unfolding(crate::specs::Report::line_of))]
 fn line_of(alloc: Global, number: u64, test: &Test, given: &Expected) -> Result<String, Memory>
     ensures line { IfOk result (λ s. string_bytes s ≡ line_of number test.now given.now) }
@@ -155,7 +158,7 @@ fn line_of(alloc: Global, number: u64, test: &Test, given: &Expected) -> Result<
     )?)
 }
 
-/// Returns a text as a JSON string.
+/// Returns the JSON text of a string, in quotes.
 fn quoted(alloc: Global, text: &Text) -> Result<String, Memory>
     ensures { IfOk result (λ s. string_bytes s ≡ quoted text.now) }
 {
@@ -163,6 +166,7 @@ fn quoted(alloc: Global, text: &Text) -> Result<String, Memory>
     Ok(Value::String(text).to_string(alloc)?)
 }
 
+/// Returns the line of a test that passed.
 #[tactic(auto, unfolding(crate::specs::Report::pass_line))]
 fn pass_line(alloc: Global, number: u64, description: &str) -> Result<String, AllocError>
     ensures { IfOk result (λ s. string_bytes s ≡ pass_line number description.now) }
@@ -170,6 +174,7 @@ fn pass_line(alloc: Global, number: u64, description: &str) -> Result<String, Al
     format!(in alloc; "pass {number} {description}\n")
 }
 
+/// Returns the line of a test that failed, with the expected and the actual result.
 #[tactic(auto, unfolding(crate::specs::Report::fail_line))]
 fn fail_line(
     alloc: Global,
