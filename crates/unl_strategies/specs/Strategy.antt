@@ -1,4 +1,4 @@
--- When a strategy is active, by the strategies of the Unleash strategy reference.
+-- When a strategy is active, after the activation strategies of the Unleash reference.
 use Rattle.std.specs.Prelude.{ℕ, List, [], ◌∷◌, Bool, true, false, ◌&&◌, Option, Some, None, codes, unwrap_or, if◌then◌else◌}
 use Rattle.std.specs.List.{list_all}
 use Rattle.std.specs.Option.{option_map_or, option_or}
@@ -17,7 +17,7 @@ use Rattle.unl_strategies.specs.Percent.{percent_of}
 use Rattle.unl_strategies.specs.Random.{random_number, random_id}
 use Rattle.unl_strategies.specs.Rollout.{is_rolled_out, is_drawn}
 
--- The value of the parameter with the given key, as it is given.
+-- The value of the parameter with the given key, even if it is empty.
 abbrev pub value_at : List ℕ → List Pair → Option (List ℕ)
 value_at key [] = None
 value_at key (p ∷ ps) = if bytes_eq p.key key then Some p.value else value_at key ps
@@ -55,30 +55,33 @@ unfoldable pub is_address_listed : List Pair → Fields → Bool
 is_address_listed parameters context =
     option_map_or (λ text. is_in_nets (parameter_or [] (codes "IPs") parameters) text) (field_of context (codes "remoteAddress")) false
 
--- The parameter's percentage includes the value of the field, in the parameter's group.
+-- The percentage in the parameter `percentage` includes the value of the context's field. The group is the parameter `groupId`,
+-- or empty if that is absent.
 unfoldable pub is_field_rolled_out : List ℕ → List Pair → Fields → Bool
 is_field_rolled_out name parameters context =
     option_map_or
     (λ id. is_rolled_out (percent_of (parameter_or [] (codes "percentage") parameters)) (parameter_or [] (codes "groupId") parameters) id)
     (field_of context name) false
 
--- The parameter's percentage includes the strategy's random number.
+-- The percentage in the parameter `percentage` includes the random number.
 unfoldable pub is_randomly_rolled_out : List Pair → ℕ → Bool
 is_randomly_rolled_out parameters random = is_drawn (percent_of (parameter_or [] (codes "percentage") parameters)) random
 
--- The parameter's percentage includes the id. The group is the feature's name if the parameters have none.
+-- The percentage in the parameter `rollout` includes the id. The group is the parameter `groupId`, or the feature's name if
+-- that is absent.
 abbrev pub is_id_rolled_out : List Pair → List ℕ → List ℕ → Bool
 is_id_rolled_out parameters feature id =
     is_rolled_out (percent_of (parameter_or [] (codes "rollout") parameters)) (parameter_or feature (codes "groupId") parameters) id
 
--- The parameter's percentage includes the id that the stickiness selects.
+-- The percentage in the parameter `rollout` includes the id that the parameter `stickiness` selects. Without an id the result
+-- is false.
 unfoldable pub is_flexibly_rolled_out : List Pair → List ℕ → ℕ → Fields → Bool
 is_flexibly_rolled_out parameters feature random context =
     option_map_or
     (is_id_rolled_out parameters feature)
     (id_by (parameter_or (codes "default") (codes "stickiness") parameters) context (decimal (random_id random))) false
 
--- The strategy's own rule, selected by its name. An unknown name's rule never holds.
+-- The strategy's own rule, selected by its name. The rule of an unknown name never holds.
 unfoldable pub rule_holds : Strategy → List ℕ → ℕ → Fields → Moment → Bool
 rule_holds s feature index context moment =
     if bytes_eq s.name (codes "default") then true else (

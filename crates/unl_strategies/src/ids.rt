@@ -1,11 +1,11 @@
-//! The ids that decide rollouts.
+//! Selects the id that decides whether a percentage rollout includes a context.
 ghost use Rattle.std.specs.Prelude.{◌≡◌, List, Some, ℕ};
 ghost use Rattle.unl_strategies.specs.Ids.{id_with};
 ghost use Rattle.unl_strategies.specs.Strategy.{id_by as id_that, default_id as id_by_default};
 
 use unl_context::Context;
 
-/// The id that decides a rollout.
+/// The id that decides whether a rollout includes a context.
 #[derive(Clone, Copy)]
 pub(crate) enum RolloutId<'a> {
     /// The value of a field of the context.
@@ -16,7 +16,8 @@ pub(crate) enum RolloutId<'a> {
     Absent,
 }
 
-/// Returns the id that a stickiness selects: a field of the context, or the random id.
+/// Returns the id that the parameter `stickiness` selects: `default` selects the userId, or else the sessionId, or else
+/// the random id. `random` selects the random id. Any other text is the name of a field of the context.
 #[tactic(auto, unfolding(crate::specs::Strategy::id_by))]
 pub(crate) fn id_by<'a>(stickiness: &str, context: &'a Context) -> RolloutId<'a>
     ensures { (random : List ℕ) → id_with result random ≡ id_that stickiness.now context.now random }

@@ -1,4 +1,4 @@
-//! Laws on rollouts. Each is the contract of an empty function.
+//! Laws on rollouts. Each law is the contract of a function that does nothing.
 ghost use Rattle.unl_strategies.specs.Laws.{EmptyRolloutsTakeNone, FullRolloutsTakeAll, RolloutsGrow};
 
 /// If a percentage includes an id, so does every greater percentage.

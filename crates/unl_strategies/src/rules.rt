@@ -1,4 +1,4 @@
-//! The rules of the strategies.
+//! The rules of the activation strategies of the Unleash reference, selected by the name of the strategy.
 ghost use Rattle.std.specs.Prelude.{◌≡◌, IfOk, []};
 ghost use Rattle.std.specs.Fmt.{decimal};
 ghost use Rattle.unl_strategies.specs.Percent.{percent_of as percent_in};
@@ -20,9 +20,9 @@ use std::alloc::Global;
 use unl_context::Context;
 use unl_documents::{List, Memory, Pair, Strategy, Text};
 
-/// Whether a strategy's own rule holds, regardless of its constraints and segments. `feature` is the name of its feature,
-/// and `index` its index there, from 0. The rule of a strategy with an unknown name never holds. The only error is out of
-/// memory.
+/// Whether a strategy's own rule holds, regardless of its constraints and segments. `feature` is the name of the
+/// strategy's feature, and `index` is the strategy's index in the feature, from 0. The rule of a strategy with an
+/// unknown name never holds. The only error is out of memory.
 #[tactic(auto, unfolding(crate::specs::Strategy::rule_holds))]
 pub fn rule(
     alloc: Global,
@@ -63,7 +63,7 @@ fn random_at(feature: &Text, index: u32, moment: &Moment) -> u32
     random_for(feature.as_str(), Mark::Strategy(index), moment.word)
 }
 
-/// Returns the percentage in the parameter with the given key.
+/// Returns the percentage in the parameter with the given key, or 0 if the parameter is absent or not a percentage.
 fn percent_at(parameters: &List<Pair>, key: &str) -> u32
     ensures { result ≡ percent_in (value_or [] key.now parameters.now) }
 {
@@ -92,8 +92,8 @@ fn is_address_listed(parameters: &List<Pair>, context: &Context) -> bool
     }
 }
 
-/// Whether the percentage includes the value of a field of the context. The group is the parameter `groupId`, or empty if
-/// that is absent.
+/// Whether the percentage in the parameter `percentage` includes the value of a field of the context. The group is the
+/// parameter `groupId`, or empty if that is absent.
 #[tactic(auto, unfolding(crate::specs::Strategy::is_field_rolled_out))]
 fn is_field_rolled_out(name: &str, parameters: &List<Pair>, context: &Context) -> bool
     ensures { result ≡ field_rolled_out name.now parameters.now context.now }
@@ -107,7 +107,7 @@ fn is_field_rolled_out(name: &str, parameters: &List<Pair>, context: &Context) -
     }
 }
 
-/// Whether the percentage includes the random number.
+/// Whether the percentage in the parameter `percentage` includes the random number.
 #[tactic(auto, unfolding(crate::specs::Strategy::is_randomly_rolled_out))]
 fn is_randomly_rolled_out(parameters: &List<Pair>, random: u32) -> bool
     ensures { result ≡ randomly_rolled_out parameters.now random }
@@ -115,8 +115,8 @@ fn is_randomly_rolled_out(parameters: &List<Pair>, random: u32) -> bool
     is_drawn(percent_at(parameters, "percentage"), random)
 }
 
-/// Whether the percentage includes the id that the parameter `stickiness` selects. The group is the parameter `groupId`, or
-/// the feature's name if that is absent.
+/// Whether the percentage in the parameter `rollout` includes the id that the parameter `stickiness` selects. The group
+/// is the parameter `groupId`, or the feature's name if that is absent.
 #[tactic(auto, unfolding(crate::specs::Strategy::is_flexibly_rolled_out))]
 fn is_flexibly_rolled_out(
     alloc: Global,
@@ -139,7 +139,8 @@ fn is_flexibly_rolled_out(
     }
 }
 
-/// Whether the percentage includes an id. The group is the parameter `groupId`, or the feature's name if that is absent.
+/// Whether the percentage in the parameter `rollout` includes an id. The group is the parameter `groupId`, or the
+/// feature's name if that is absent.
 fn is_id_rolled_out(parameters: &List<Pair>, feature: &Text, id: &str) -> bool
     ensures { result ≡ id_rolled_out parameters.now feature.now id.now }
 {
@@ -147,7 +148,7 @@ fn is_id_rolled_out(parameters: &List<Pair>, feature: &Text, id: &str) -> bool
     is_rolled_out(percent_at(parameters, "rollout"), group, id)
 }
 
-/// Returns the random id in decimal.
+/// Returns the random id in decimal. `random` is the random number of the strategy.
 fn random_text(alloc: Global, random: u32) -> Result<Text, Memory>
     ensures { IfOk result (λ t. t ≡ decimal (id_number random)) }
 {

@@ -8,8 +8,8 @@ use unl_constraints::segment_holds;
 use unl_context::Context;
 use unl_documents::{List, Memory, Segment, Shared, segment_of};
 
-/// Whether, for each id, the list has a segment with that id and the context satisfies it. `now` is in milliseconds since
-/// 1970.
+/// Whether the context satisfies all segments with the given ids. An id that is not in the list is not satisfied. `now`
+/// is in milliseconds since 1970.
 pub(crate) fn all_met(
     alloc: Global,
     ids: &[u64],
