@@ -1,4 +1,4 @@
--- What a lookup in the index finds, and how the index grows.
+-- The result of a lookup in the index of tokens by text, and changes of the index.
 use Rattle.std.proofs.Common.{◌≡◌, ℕ, zero, suc, ◌+◌, ◌<◌, ◌≤◌, Bool, true, false, List, [], ◌∷◌, ◌++◌, length, get_or, Option, Some, None, Less, Equal, Greater, nat_cmp, refl, sym, ap, ◌∙◌, arith, inl, inr}
 use Rattle.std.specs.Prelude.{◌≢◌, All, AllPairs, IfSome, insert, slice_get, slice_set, option_and_then, if◌then◌else◌}
 use Rattle.std.specs.Cmp.Lexicographic.{slice_cmp, same_text}
@@ -101,7 +101,7 @@ found_there tokens text places at place index point lt same =
     let known : bytes_eq (text_at tokens place) text ≡ true = rw same (text_refl text) in
     rw (represents, known) refl
 
--- a position that the lookup returns was at the point, and its token has the text
+-- if the lookup at a point returns a position, the index has this position there, and its token has the text
 picked : (tokens : List Token) (text : List ℕ) (held : Option ℕ) (place : ℕ) → option_and_then (if_text tokens text) held ≡ Some place → (held ≡ Some place) × (text_at tokens place ≡ text)
 picked tokens text None place is = absurd (cc)
 picked tokens text (Some other) place is = by (bytes_eq (text_at tokens other) text) refl is

@@ -108,7 +108,7 @@ next_answer None tokens before marks text at old =
 next_answer (Some place) [] before marks text at old = absurd (cc)
 next_answer (Some place) (t ∷ ts) before marks text at old = answered_at place (t ∷ ts) before marks text t at old
 
--- one more text: the token answered for it, and the marks afterwards
+-- for one more text: the token that is answered, and the marks after it
 pub marks_go_on : (tokens : List Token) (before : List (List ℕ)) (marks : List Bool) (text : List ℕ) → HaveDistinctTexts tokens → Marked tokens before marks → (unmarked tokens marks text ≡ answered tokens before text) × Marked tokens (before ++ text ∷ []) (marked tokens marks text)
 marks_go_on tokens before marks text different old = (
   next_answer (position (has_text text) tokens) tokens before marks text refl old,

@@ -1,4 +1,4 @@
--- Laws about repeated texts: each text counts once, where it first occurs.
+-- Laws about several tokens with the same text in a book or in a request: each text counts once, in the position where it first occurs.
 use Rattle.std.specs.Prelude.{◌≡◌, ℕ, List, [], ◌∷◌, map, filter, filter_map, not, Option, Some, None, option_and_then, Ok, if◌then◌else◌}
 use Rattle.std.specs.Option.{option_or}
 use Rattle.std.specs.Str.{bytes_eq}
@@ -29,20 +29,21 @@ last_with_text text (token ∷ tokens) = option_or (last_with_text text tokens) 
 abbrev pub latest : List Token → List Token
 latest tokens = filter_map (λ text. last_with_text text tokens) (each_once (texts_of tokens))
 
--- the tokens of a list of entries become the book of the latest tokens
+-- `gathered` keeps one token for each text, in the position where the text first occurs: the last token with that text
 abbrev pub LatestAreGathered : Type 0
 LatestAreGathered = (tokens : List Token) → gathered tokens ≡ latest tokens
 
--- a book read from an answer holds the latest of the answer's tokens
+-- a book that is read from a JSON value has, for each text, the last token with that text in the value's list `tokens`
 abbrev pub LatestAreRead : Type 0
 LatestAreRead = (value : Data) (entries : Items) (tokens book : List Token)
     → option_and_then as_array (at field.Tokens value) ≡ Some entries → tokens_from 0 entries ≡ Ok tokens
     → book_of value ≡ Ok book → book ≡ latest tokens
 
--- a request gets each text once, where it is first asked for, with the book's token of that text
+-- The tokens returned for the requested texts: the book's token for each text, once, in the order in which the texts first occur. A
+-- text without a token in the book is skipped.
 abbrev pub KnownOnce : Type 0
 KnownOnce = (book : List Token) (asked : List (List ℕ)) → known book asked ≡ filter_map (λ text. token_of text book) (each_once asked)
 
--- a list of tokens with different texts becomes a book with all of them, in the same order
+-- if all tokens of a list have different texts, `gathered` returns the same list
 abbrev pub DifferentAreKept : Type 0
 DifferentAreKept = (tokens : List Token) → HaveDistinctTexts tokens → gathered tokens ≡ tokens
