@@ -1,4 +1,4 @@
--- The function computes the only choice that satisfies the relation.
+-- The function `choice_of` computes the only choice that satisfies the relation `IsChosen`.
 use Rattle.std.proofs.Common.{◌≡◌, ℕ, ◌<◌, ◌≤◌, Bool, true, false, List, Option, Some, None, refl, sym, ap, ◌∙◌, arith, inl, inr}
 use Rattle.std.specs.Prelude.{position, is_some, is_none, unwrap_or, MatchBool, IfSome, IfNone, ◌==◌, length}
 use Rattle.std.specs.List.{list_any}
@@ -12,7 +12,7 @@ use Rattle.unl_variants.proofs.Firsts.{first_at, first_only, some_passes}
 use Rattle.unl_variants.proofs.Reaching.{place_is_reached, reached_once}
 
 module _ (group : List ℕ) (vs : List Variant) (context : Fields) (random : ℕ) where
-  -- the number drawn is between 1 and the sum of the weights
+  -- `target_of` is between 1 and the sum of the weights
   target_within : 0 < total_weight vs → (0 < target_of group vs context random) × (target_of group vs context random ≤ total_weight vs)
   unfolding target_of normalized_of
   target_within some = omega arith
@@ -33,7 +33,7 @@ module _ (group : List ℕ) (vs : List Variant) (context : Fields) (random : ℕ
       let there : list_any (is_overridden context) vs ≡ true = sym (some_passes (is_overridden context) vs) ∙ ap is_some is in
       (some, rw there (first_at (is_overridden context) vs k is))
 
-  -- the function's value satisfies the relation
+  -- the result of `choice_of` satisfies `IsChosen`
   pub choice_is : IsChosen group vs context random (choice_of group vs context random)
   unfolding choice_of
   choice_is = elim (cases_lt 0 (total_weight vs)) [
@@ -47,14 +47,14 @@ module _ (group : List ℕ) (vs : List Variant) (context : Fields) (random : ℕ
   chosen_places j k true is a b = ap (λ o. unwrap_or o 0) (sym (first_only (is_overridden context) vs j a) ∙ first_only (is_overridden context) vs k b)
   chosen_places j k false is a b = reached_once (target_of group vs context random) vs j k a b
 
-  -- the relation has at most one value
+  -- at most one choice satisfies `IsChosen`
   pub chosen_once : (a b : Option ℕ) → IsChosen group vs context random a → IsChosen group vs context random b → a ≡ b
   chosen_once None None none also = refl
   chosen_once None (Some k) none is = absurd (omega (arith, none, is.0))
   chosen_once (Some j) None is none = absurd (omega (arith, none, is.0))
   chosen_once (Some j) (Some k) a b = ap Some (chosen_places j k _ refl a.1 b.1)
 
-  -- so a choice that satisfies the relation is the function's value
+  -- so a choice that satisfies `IsChosen` is the result of `choice_of`
   pub value_is : (found : Option ℕ) → IsChosen group vs context random found → found ≡ choice_of group vs context random
   value_is found is = chosen_once found (choice_of group vs context random) is choice_is
 

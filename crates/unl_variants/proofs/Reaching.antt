@@ -1,4 +1,4 @@
--- The first position whose weight, added to those before it, reaches a target.
+-- The first index for which the sum of the weights up to and including it is at least a target.
 use Rattle.std.proofs.Common.{◌≡◌, ℕ, zero, suc, ◌+◌, ◌*◌, ◌<◌, ◌≤◌, true, false, List, [], ◌∷◌, length, take, get_or, Option, Some, None, refl, sym, ap, subst, ◌∙◌, arith, inl, inr}
 use Rattle.std.specs.Prelude.{nat_le, position, is_some}
 use Rattle.std.specs.List.{list_any}
@@ -59,7 +59,7 @@ heavier : (vs : List Variant) (j k : ℕ) → j < k → weight_before (j + 1) vs
 heavier vs j k below =
     subst (λ prefix. total_weight prefix ≤ total_weight (take k vs)) (take-take (j + 1) k vs (omega arith)) (sum_by-take-le (λ (v : Variant). v.weight) (take k vs) (j + 1))
 
--- only one position reaches it first
+-- at most one index is the first for which the sum is at least the target
 pub reached_once : (target : ℕ) (vs : List Variant) (j k : ℕ) → IsReached target vs j → IsReached target vs k → j ≡ k
 reached_once target vs j k a b =
     elim (cases_lt j k) [

@@ -20,7 +20,7 @@ AreWithinLimits variants = IsListOf 100 (λ v. v.weight ≤ 1000) variants
 abbrev pub total_weight : List Variant → ℕ
 total_weight variants = sum_by (λ v. v.weight) variants
 
--- the sum of the weights of the variants before a position
+-- the sum of the weights of the variants before an index
 abbrev pub weight_before : ℕ → List Variant → ℕ
 weight_before place variants = total_weight (take place variants)
 
@@ -28,15 +28,15 @@ weight_before place variants = total_weight (take place variants)
 abbrev pub is_among : List (List ℕ) → List ℕ → Bool
 is_among values text = list_any (λ value. bytes_eq value text) values
 
--- whether the override's values include the context's value of its field
+-- whether the override matches the context: the context has the override's field, and its value is one of the override's values
 unfoldable pub is_meant : Fields → Override → Bool
 is_meant context o = option_map_or (is_among o.values) (field_of context o.field) false
 
--- whether an override gives the variant to the context
+-- whether one of the overrides of the variant matches the context
 abbrev pub is_overridden : Fields → Variant → Bool
 is_overridden context variant = list_any (is_meant context) variant.overrides
 
--- the first variant's stickiness, which applies to all; empty if absent
+-- the stickiness of the first variant, which applies to all variants; empty if there is none
 abbrev pub stickiness_of : List Variant → List ℕ
 stickiness_of [] = []
 stickiness_of (v ∷ vs) = unwrap_or v.stickiness []
@@ -51,48 +51,49 @@ sticky_text name context =
     if bytes_eq name (codes "") || bytes_eq name (codes "default") then own_id context else (
     if bytes_eq name (codes "random") then None else field_of context name)
 
--- the id that is hashed: the selected text, or the random number in decimal
+-- the id that is hashed: the text that the stickiness selects, or the random number in decimal if it selects nothing
 unfoldable pub id_of : List Variant → Fields → ℕ → List ℕ
 id_of variants context random = unwrap_or (sticky_text (stickiness_of variants) context) (decimal random)
 
--- the number drawn: from 1 to the sum of the weights, by the hash of the group and the id
+-- the number that decides the choice by weight: from 1 to the sum of the weights, by the hash of the group and the id
 unfoldable pub target_of : List ℕ → List Variant → Fields → ℕ → ℕ
 target_of group variants context random = normalized_of group (id_of variants context random) (total_weight variants) 86028157
 
--- the position of the first item that passes
+-- `place` is the index of the first item that passes the test
 pub record IsFirst {T : Type 0} (passes : T → Bool) (xs : List T) (place : ℕ) : Type 0 where
   pub inside : place < length xs
   pub here : HoldsAt (λ x. passes x ≡ true) xs place
   pub not_before : AllWithin (λ x. passes x ≡ false) xs 0 place
 
--- the weights before the position don't reach the target, and with the weight at the position they do
+-- the sum of the weights before the index is less than the target; together with the weight at the index it is at least the target
 pub record IsReached (target : ℕ) (variants : List Variant) (place : ℕ) : Type 0 where
   pub inside : place < length variants
   pub above : weight_before place variants < target
   pub up_to : target ≤ weight_before (place + 1) variants
 
--- with an override for the context, the first such variant; otherwise the first variant that reaches the number drawn
+-- `place` is the index of the first variant with an override for the context, if there is one; otherwise that of the first variant
+-- whose weight, added to the weights before it, is at least `target_of`
 abbrev pub IsPicked : List ℕ → List Variant → Fields → ℕ → ℕ → Type 0
 IsPicked group variants context random place =
     MatchBool (list_any (is_overridden context) variants)
     (IsFirst (is_overridden context) variants place)
     (IsReached (target_of group variants context random) variants place)
 
--- the position chosen in a group for a context; None if the weights sum to 0
+-- `Some place`: the variant at this index is chosen for the context; `None`: the weights sum to 0, and no variant is chosen
 abbrev pub IsChosen : List ℕ → List Variant → Fields → ℕ → Option ℕ → Type 0
 IsChosen group variants context random None = total_weight variants ≡ 0
 IsChosen group variants context random (Some place) = (0 < total_weight variants) × IsPicked group variants context random place
 
--- for each variant, the sum of the weights up to and including it
+-- for each variant, the sum of `before` and the weights up to and including its own
 abbrev pub sums_from : ℕ → List Variant → List ℕ
 sums_from before [] = []
 sums_from before (v ∷ vs) = (before + v.weight) ∷ sums_from (before + v.weight) vs
 
--- the first position where the sum reaches the target
+-- the first index for which the sum of the weights up to and including it is at least the target
 unfoldable pub place_reached : ℕ → List Variant → Option ℕ
 place_reached target variants = position (λ sum. nat_le target sum) (sums_from 0 variants)
 
--- the position chosen, as a function
+-- the index of the chosen variant, as a function: computes what `IsChosen` defines
 unfoldable pub choice_of : List ℕ → List Variant → Fields → ℕ → Option ℕ
 choice_of group variants context random =
     if total_weight variants == 0 then None

@@ -1,4 +1,4 @@
-//! Chooses the variant for a context.
+//! Chooses one of a list of variants for a context: by overrides, otherwise by weights.
 ghost use Rattle.std.specs.Prelude.{◌≡◌, ◌==◌, ◌<◌, ℕ, Option, length, is_none, IfSome};
 ghost use Rattle.unl_variants.specs.Variant.{AreWithinLimits, IsChosen, choice_of, target_of, total_weight as total_weight_of};
 
@@ -10,15 +10,17 @@ use unl_context::Context;
 use unl_documents::{List, Variant};
 use unl_murmur::normalized;
 
-/// The seed of the hash that draws a variant, chosen so that variants don't follow the rollouts.
+/// The seed of the hash by which a variant is chosen. Rollouts use seed 0. The seeds differ so that whether a rollout
+/// includes a context and which variant the context gets are decided by different hash functions.
 const SEED: u32 = 86_028_157;
 
-/// The position of the variant chosen for a context, counted from 0. Returns `None` exactly if the weights sum to 0.
-/// Allocates nothing.
+/// Returns the index of the variant chosen for a context, counted from 0. Returns `None` if and only if the weights sum
+/// to 0. Allocates nothing. There are at most 100 variants with weights of at most 1,000.
 ///
-/// The first variant with an override for the context is chosen. Without one, a number from 1 to the sum of all weights is
-/// drawn: the hash of the group and the id. The first variant is chosen whose weight, added to those before it, reaches that
-/// number. If the context has no id, `random` in decimal is the id.
+/// If a variant has an override for the context, the first such variant is chosen. Otherwise the choice is by weight:
+/// the hash of `group` and the id gives a number from 1 to the sum of all weights. The first variant is chosen for
+/// which the sum of the weights up to and including its own is at least this number. The id is the text that the
+/// stickiness of the first variant selects from the context. If it selects nothing, the id is `random` in decimal.
 pub fn choose(
     group: &str,
     variants: &List<Variant>,
@@ -35,7 +37,7 @@ pub fn choose(
     chosen_place(group, variants.as_slice(), context, random)
 }
 
-/// The position of the chosen variant. An override takes precedence over the draw.
+/// As [`choose`], with the result described by the relation `IsChosen`.
 fn chosen_place(group: &str, variants: &[Variant], context: &Context, random: u32) -> Option<usize>
     requires limits { AreWithinLimits variants.now }
     ensures { IsChosen group.now variants.now context.now random result }
@@ -50,7 +52,7 @@ fn chosen_place(group: &str, variants: &[Variant], context: &Context, random: u3
     place_reached(variants, target(group, variants, context, random, total))
 }
 
-/// The number drawn, which the weights must reach.
+/// Returns the number, from 1 to the sum of the weights, that decides the choice by weight.
 #[tactic(auto, unfolding(crate::specs::Variant::target_of, crate::specs::Variant::id_of, unl_murmur::specs::Murmur3::normalized_of))]
 fn target(group: &str, variants: &[Variant], context: &Context, random: u32, total: u32) -> u32
     requires some { 0 < total }

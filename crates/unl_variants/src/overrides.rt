@@ -6,21 +6,22 @@ ghost use Rattle.unl_variants.specs.Variant.{is_among as among, is_meant as mean
 use unl_context::Context;
 use unl_documents::{Override, Text, Variant};
 
-/// The position of the first variant with an override for the context.
+/// Returns the index of the first variant with an override for the context, if there is one.
 pub(crate) fn first_overridden(variants: &[Variant], context: &Context) -> Option<usize>
     ensures { result ≡ position (overridden context.now) variants.now }
 {
     variants.iter().position(|variant| has_override(variant.overrides.as_slice(), context))
 }
 
-/// Whether one of the overrides matches the context.
+/// Returns whether one of the overrides matches the context.
 fn has_override(overrides: &[Override], context: &Context) -> bool
     ensures { result ≡ list_any (meant context.now) overrides.now }
 {
     overrides.iter().any(|one| is_meant(one, context))
 }
 
-/// Whether an override's values include the context's value of its field.
+/// Returns whether an override matches the context: the context has the override's field, and its value is one of the
+/// override's values.
 #[tactic(auto, unfolding(crate::specs::Variant::is_meant))]
 fn is_meant(one: &Override, context: &Context) -> bool
     ensures { result ≡ meant context.now one.now }
@@ -31,6 +32,7 @@ fn is_meant(one: &Override, context: &Context) -> bool
     }
 }
 
+/// Returns whether the text is one of the values.
 fn is_among(values: &[Text], text: &str) -> bool
     ensures { result ≡ among values.now text.now }
 {

@@ -1,10 +1,10 @@
-//! Sums of weights.
+//! Sums of the weights of variants.
 ghost use Rattle.std.specs.Prelude.{◌≡◌, ◌<◌, IfSome, IfNone};
 ghost use Rattle.unl_variants.specs.Variant.{AreWithinLimits, total_weight as total_weight_of, IsReached};
 
 use unl_documents::Variant;
 
-/// The sum of the weights.
+/// Returns the sum of the weights.
 pub(crate) fn total_weight(variants: &[Variant]) -> u32
     requires limits { AreWithinLimits variants.now }
     ensures { result ≡ total_weight_of variants.now }
@@ -16,7 +16,8 @@ pub(crate) fn total_weight(variants: &[Variant]) -> u32
     total
 }
 
-/// The first position whose weight, added to those before it, reaches the target.
+/// Returns the first index for which the sum of the weights up to and including it is at least `target`. Returns `None`
+/// if the sum of all weights is less than `target`.
 pub(crate) fn place_reached(variants: &[Variant], target: u32) -> Option<usize>
     requires limits { AreWithinLimits variants.now }
     requires some { 0 < target }
