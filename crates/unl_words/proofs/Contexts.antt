@@ -17,7 +17,7 @@ passed : (made context : Fields) (within : Bool) → is_within_limits made ≡ w
 passed made context true is same = let here : made ≡ context = cc in subst (λ (c : Fields). is_within_limits c ≡ true) here is
 passed made context false is same = absurd cc
 
--- The context that a query spells is within its limits.
+-- A context that is read from a query is within its limits.
 pub query_within : (query : Text) (context : Fields) → query_context query ≡ Ok context → is_within_limits context ≡ true
 unfolding query_context
 query_within query context reads = passed (set_by (pairs_of query)) context (is_within_limits (set_by (pairs_of query))) refl reads

@@ -20,7 +20,7 @@ regrouped false true true false apart = refl
 regrouped false true false others apart = refl
 regrouped false false rest others apart = refl
 
--- The texts of two lists together are distinct if those of each list are and no text is in both.
+-- The texts of two lists together are distinct if the texts of each list are distinct and no text is in both lists.
 pub different_together : (texts others : List Text) → are_different (texts ++ others) ≡ (are_different texts && (are_different others && are_apart texts others))
 unfolding are_different
 different_together [] others = right_true (are_different others)

@@ -20,7 +20,7 @@ faulted [] rows e (inl memory) not = absurd (not (ap refusal_of memory))
 faulted [] rows e (inr none) not = absurd none
 faulted (k ∷ ks) rows e has not = ap Err (bad_else (refusal_of (kind_of e)) not)
 
--- If a refusal is forwarded unchanged, what was shown for it holds for the result.
+-- If a refusal is forwarded unchanged, the properties proved for the refusal hold for the result.
 pub forwarded_refusal : (result : WordsReading) (refusal : WordsRefusal) (reading : WordsReading) → IsErr result → IsErrAnd result (λ e. e ≡ refusal)
     → (refusal ≢ Memory → reading ≡ Err refusal) → Gives Memory result reading
 forwarded_refusal (Ok command) refusal reading is same gives = absurd (true≢false (sym is))

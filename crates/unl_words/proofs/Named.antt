@@ -16,13 +16,13 @@ first_command text (argument ∷ arguments) first name is named =
     let same : name ≡ text argument = cc in
     ap command_named same
 
--- No arguments name no command.
+-- An empty list of arguments names no command.
 pub no_command : {X : Type 0} (text : X → Text) (arguments : List X) → None ≡ slice_get arguments 0 → None ≡ command_of (map text arguments)
 unfolding command_of
 no_command text [] none = refl
 no_command text (argument ∷ arguments) none = absurd cc
 
--- The reading of the command is the reading of all arguments.
+-- Reading the command that the first argument names gives the same result as reading all arguments.
 pub exactly : (arguments : List Text) (command : CommandDefinition) (result : WordsReading) → Some command ≡ command_of arguments
     → Gives Memory result (asked_of command arguments) → Gives Memory result (words_of arguments)
 unfolding words_of

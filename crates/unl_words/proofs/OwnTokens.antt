@@ -33,7 +33,7 @@ use Rattle.unl_words.proofs.Known.{others_differ}
 
 -- ---- one text
 
--- What is known of a token's text that names its projects.
+-- The properties of a text that is a token and names its projects.
 record IsOwnToken (spelling : List ℕ) : Type 0 where
   few : length spelling ≤ 512
   scope : Scope
@@ -78,7 +78,7 @@ entry_read word kind spelling known is =
       refl,
     )
 
--- ---- all of them
+-- ---- all texts
 
 -- The values are read as the tokens with these texts.
 AreEntries : List Data → List (List ℕ) → Type 0

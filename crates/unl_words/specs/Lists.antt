@@ -18,24 +18,25 @@ unfoldable pub are_different : List Text → Bool
 are_different [] = true
 are_different (text ∷ texts) = not (is_one_of text texts) && are_different texts
 
--- No text of the first list is in the second.
+-- No text of the first list is also in the second.
 abbrev pub are_apart : List Text → List Text → Bool
 are_apart texts others = list_all (λ text. not (is_one_of text others)) texts
 
 -- ---- tokens
 
--- The token's environment and projects are names. Only if `may_be_open` is true may the token leave its projects to the
--- token server.
+-- The token's environment and projects are names. If its text has `[]` in place of a project, so that only the token server knows
+-- its projects, `may_be_open` must be true.
 abbrev pub is_named : Bool → Result Scope BadToken → Bool
 is_named may_be_open (Ok scope) = is_name scope.environment && (are_names scope.projects && (may_be_open || not scope.listed))
 is_named may_be_open (Err e) = false
 
 -- The text is a token: it has at most 512 bytes, none of which is a carriage return, line feed or NUL, and its environment and
--- projects are names. Only if `may_be_open` is true may it leave its projects to the token server.
+-- projects are names. If it has `[]` in place of a project, so that only the token server knows its projects, `may_be_open` must be
+-- true.
 abbrev pub is_token : Bool → Text → Bool
 is_token may_be_open text = nat_le (length text) 512 && (is_line text && is_named may_be_open (scope_of text))
 
--- The text, if it is a token, which may leave its projects to the token server.
+-- The text, if it is a token. Its projects may be known only to the token server.
 abbrev pub token_of : Text → Value Text
 token_of text = passed (is_token true text) text
 

@@ -43,7 +43,7 @@ is_number text = nat_lt 0 (length text) && list_all is_ascii_digit text
 abbrev pub within : ℕ → ℕ → ℕ → Value ℕ
 within least most number = passed (nat_le least number && nat_le number most) number
 
--- The number that a text spells, if it is within the bounds.
+-- The number that is written in a text, if it is within the bounds.
 unfoldable pub number_within : ℕ → ℕ → Text → Value ℕ
 number_within least most text = if is_number text then within least most (digits_value 10 text) else Err Bad
 
@@ -107,12 +107,12 @@ name_of text = passed (is_name text) text
 
 -- ---- contexts
 
--- A context that was read, with its fault as a refusal.
+-- The result of reading a context, with a fault of the context converted to a refusal of the arguments.
 abbrev pub context_in : Reading Fields → Value Fields
 context_in (Ok context) = Ok context
 context_in (Err fault) = Err (refusal_by fault)
 
--- The context that a query spells.
+-- The context that is read from the query of a URL, such as `userId=7&region=eu`.
 abbrev pub context_by : Text → Value Fields
 context_by query = context_in (query_context query)
 

@@ -1,4 +1,4 @@
--- How the arguments of a command line are read, by clap's definition of a simple command.
+-- How the arguments of a command line are read: what clap accepts, and the range of each value.
 use Rattle.std.specs.Prelude.{◌≡◌, true, ◌-◌, ◌^◌, ℕ, List, [], ◌∷◌, codes, if◌then◌else◌, Option, Some, None, Result, Ok, Err, ok_or}
 use Rattle.std.specs.List.{fold}
 use Rattle.std.specs.Str.{bytes_eq}
@@ -20,7 +20,7 @@ WordsReading = Result Words WordsRefusal
 
 -- ---- commands
 
--- A command: its definition for clap, and how it is read from the rows of values that clap finds.
+-- A command: its definition for clap, and how its values are read from the rows of values that clap finds.
 pub record CommandDefinition : Type 0 where
   pub app : App
   pub asks : List Row → WordsReading
@@ -29,7 +29,7 @@ pub record CommandDefinition : Type 0 where
 abbrev pub option_named : Text → Rule
 option_named name = record (new_rule name) { long = Some name; action = Some Set }
 
--- The same as a required option.
+-- A required option that takes one value after its long name.
 abbrev pub required_named : Text → Rule
 required_named name = record (option_named name) { required = true }
 
@@ -43,17 +43,17 @@ with_options name rules = fold with_rule (new_app name) rules
 unfoldable pub replay_app : App
 replay_app = new_app (codes "replay")
 
--- The command `replay`, which reads lines and prints one line for each.
+-- The command `replay`, which reads lines of input and prints for each line what an edge answers.
 abbrev pub replay : CommandDefinition
 replay = record { app = replay_app; asks = λ rows. Ok Replay }
 
 -- ---- check
 
--- `check` has options for a moment in milliseconds and a random word.
+-- `check` has options for the time in milliseconds and the random word of its evaluations.
 unfoldable pub check_app : App
 check_app = with_options (codes "check") (option_named (codes "now") ∷ option_named (codes "word") ∷ [])
 
--- The latest moment, in milliseconds since the epoch.
+-- The latest time that `check` accepts, in milliseconds since 1970 (chosen by this project).
 abbrev pub last_moment : ℕ
 last_moment = 100000000000000
 
@@ -173,7 +173,7 @@ asks_follow rows = do
     interval = interval;
   }))
 
--- The command `follow`, which follows an upstream and prints at each turn whether one feature is on.
+-- The command `follow`, which polls an upstream turn by turn and prints after each turn whether one feature is on.
 abbrev pub follow : CommandDefinition
 follow = record { app = follow_app; asks = asks_follow }
 
@@ -189,7 +189,7 @@ explain = record { app = explain_app; asks = λ rows. Ok Explain }
 
 -- ---- load
 
--- `load` requires both of its numbers.
+-- `load` requires its seed and its count.
 unfoldable pub load_app : App
 load_app = with_options (codes "load") (required_named (codes "seed") ∷ required_named (codes "count") ∷ [])
 
@@ -224,7 +224,7 @@ command_of (name ∷ arguments) = command_named name
 
 -- ---- reading
 
--- The rows, if no kind of fault was found.
+-- The rows, if clap found no fault; otherwise the arguments are bad.
 abbrev pub faultless : Kinds → List Row → Result (List Row) WordsRefusal
 faultless [] rows = Ok rows
 faultless (kind ∷ kinds) rows = Err Bad
@@ -233,7 +233,7 @@ faultless (kind ∷ kinds) rows = Err Bad
 unfoldable pub matched : App → List Text → Result (List Row) WordsRefusal
 matched app arguments = faultless (fault_of app arguments) (matches_of app arguments)
 
--- A command as read from the arguments after the first.
+-- The result of reading this command from the arguments after its name.
 abbrev pub asked_of : CommandDefinition → List Text → WordsReading
 asked_of command arguments = do
   rows ← matched command.app arguments
@@ -245,7 +245,8 @@ words_of arguments = do
   command ← ok_or (command_of arguments) Bad
   asked_of command arguments
 
--- If clap's definition of the command accepts the arguments, the result depends only on the values, unless memory ran out.
+-- If clap accepts the arguments for the command, the result is what `command.asks` returns for the values that clap finds, or it is
+-- the error `Memory`.
 abbrev pub DecidedByRanges : CommandDefinition → List Text → WordsReading → Type 0
 DecidedByRanges command arguments result =
     takes command.app arguments ≡ true → Gives Memory result (command.asks (matches_of command.app arguments))

@@ -11,9 +11,9 @@ use unl_documents::to_value::{put, put_value};
 use unl_documents::{Field, List, Memory, Text};
 use unl_tokens::{BadBook, Book};
 
-/// Builds the token book from the client and frontend tokens in the arguments of `upstream`. Each token has the projects
-/// that its text names. The book is the one that a token server would return for these texts. If the book can't be read,
-/// because of a text that the arguments don't allow, it is empty.
+/// Builds the token book (the list of known tokens) from the client and frontend tokens in the arguments of `upstream`.
+/// Each token has the projects that its text names. The book is read from the response that a token server would give
+/// for these texts. It is empty if that can't be read, which happens only for texts that the arguments don't allow.
 ///
 /// # Errors
 /// The only error is out of memory.
@@ -21,7 +21,7 @@ use unl_tokens::{BadBook, Book};
 pub fn own_book(alloc: Global, clients: &List<Text>, frontends: &List<Text>) -> Result<Book, Memory>
     ensures book { IfOk result (λ book. book ≡ own_book clients.now frontends.now) }
 
-    // If the arguments are in their ranges, every text is read.
+    // If the arguments are in their ranges, the book has a token for every text.
     ensures whole { are_own_tokens clients.now ≡ true → are_own_tokens frontends.now ≡ true → fit_one_book clients.now frontends.now ≡ true
         → book_of (own_answer clients.now frontends.now) ≡ Ok (own_book clients.now frontends.now) }
 {

@@ -1,4 +1,4 @@
-//! The commands as defined for clap, each with its table of options.
+//! The definition of each command for clap: its name and its options.
 ghost use Rattle.std.specs.Prelude.{◌≡◌, ◌≢◌, true, false, map, IfOk, IfErr, Ok, Err, string_bytes};
 ghost use Rattle.std.specs.List.{fold};
 ghost use Rattle.clap.specs.Words.{app_of, found_of, is_simple_and_free, matches_of, rows_of, rule_of, takes, with_rule};
@@ -12,7 +12,7 @@ use crate::name::CommandName;
 use clap::{Arg, ArgAction, ArgMatches, Command};
 use std::alloc::{AllocError, Global};
 
-/// Returns the command of a name.
+/// Returns clap's definition of the command with this name.
 #[tactic(auto, unfolding(crate::specs::Commands::command_by))]
 pub(crate) fn named<'a>(alloc: Global, name: CommandName) -> Result<Command<'a>, AllocError>
     ensures { IfOk result (λ command. app_of command ≡ (command_by name).app) }
@@ -36,7 +36,7 @@ fn replay<'a>(alloc: Global) -> Command<'a>
     Command::new(alloc, "replay")
 }
 
-/// `check` has options for a moment and a random word.
+/// `check` has options for the time and the random word of its evaluations.
 #[tactic(auto, unfolding(crate::specs::Words::check_app))]
 fn check<'a>(alloc: Global) -> Result<Command<'a>, AllocError>
     ensures { IfOk result (λ command. app_of command ≡ check_app) }
@@ -93,7 +93,7 @@ fn explain<'a>(alloc: Global) -> Command<'a>
     Command::new(alloc, "explain")
 }
 
-/// `load` requires both of its numbers.
+/// `load` requires its seed and its count.
 #[tactic(auto, unfolding(crate::specs::Words::load_app))]
 fn load<'a>(alloc: Global) -> Result<Command<'a>, AllocError>
     ensures { IfOk result (λ command. app_of command ≡ load_app) }
@@ -142,7 +142,7 @@ fn option_named<'a>(alloc: Global, name: &'a str, required: bool) -> Arg<'a>
         .required(required)
 }
 
-/// Returns what clap finds in the arguments after the first.
+/// Parses the arguments after the first, which is the command's name, and returns the values that clap finds.
 pub(crate) fn matched<'a>(
     command: Command<'a>,
     arguments: &'a [String],

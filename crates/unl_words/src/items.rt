@@ -1,4 +1,4 @@
-//! Comma-separated lists in the values of options.
+//! Reads option values that are comma-separated lists: environments and tokens.
 ghost use Rattle.std.specs.Prelude.{◌≡◌, ◌++◌, true, IfOk, option_copied};
 ghost use Rattle.std.specs.List.{list_any};
 ghost use Rattle.std.specs.Str.{bytes_eq};
@@ -27,7 +27,7 @@ pub(crate) fn environments(alloc: Global, given: Option<&str>) -> Result<List<Te
     accepted(items, pass)
 }
 
-/// Reads the tokens that are presented to an upstream: 1 to 8, with distinct environments.
+/// Reads the tokens that an edge sends to its upstream: 1 to 8, with distinct environments.
 pub(crate) fn upstream_tokens(
     alloc: Global,
     given: Option<&str>,
@@ -43,7 +43,7 @@ pub(crate) fn upstream_tokens(
     accepted(items, pass)
 }
 
-/// Reads the tokens that may be known: 1 to 1,024.
+/// Reads the tokens that an edge may accept from clients: 1 to 1,024.
 pub(crate) fn tokens(alloc: Global, given: Option<&str>) -> Result<List<Text>, WordsRefusal>
     ensures gives { Gives memory result (required (items_of are_tokens) (option_copied given.entry)) }
     ensures valid { IfOk result (λ items. are_tokens items ≡ true) }
@@ -126,7 +126,7 @@ fn are_different_together(texts: &[Text], others: &[Text]) -> bool
     are_different(texts) && are_different(others) && are_apart(texts, others)
 }
 
-/// Whether no text of the first list is in the second.
+/// Whether no text of the first list is also in the second.
 fn are_apart(texts: &[Text], others: &[Text]) -> bool
     ensures { result ≡ are_apart texts.now others.now }
 {

@@ -1,4 +1,4 @@
-//! The arguments of the command line: which command they name, and the values of its options.
+//! Parses the command line of the program: which command it names, and the checked values of the command's options.
 #![tactic(auto)]
 
 mod book;

@@ -1,4 +1,4 @@
-//! The names of the commands.
+//! Finds the command that the first argument names.
 ghost use Rattle.std.specs.Prelude.{◌≡◌, map, option_map, string_bytes};
 ghost use Rattle.unl_words.specs.Commands.{command_by};
 ghost use Rattle.unl_words.specs.Words.{command_named, command_of};
@@ -15,7 +15,7 @@ pub(crate) enum CommandName {
     Load,
 }
 
-/// Returns the name of the command in the first argument, if it is one.
+/// Returns the command name in the first argument, or `None` if there is no argument or it is no command name.
 pub(crate) fn first_name(arguments: &[String]) -> Option<CommandName>
     ensures { option_map command_by result ≡ command_of (map string_bytes arguments.now) }
 {
@@ -25,7 +25,7 @@ pub(crate) fn first_name(arguments: &[String]) -> Option<CommandName>
     }
 }
 
-/// Returns the name that a text spells, if it is one.
+/// Returns the command name that is equal to this text, if there is one.
 #[tactic(auto, unfolding(crate::specs::Commands::command_by))]
 fn read_name(text: &str) -> Option<CommandName>
     ensures { option_map command_by result ≡ command_named text.now }

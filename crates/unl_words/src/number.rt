@@ -1,4 +1,4 @@
-//! Numbers in the values of options.
+//! Reads option values that are numbers, and checks their bounds.
 ghost use Rattle.std.specs.Prelude.{◌≡◌, IfOk, option_copied};
 ghost use Rattle.std.specs.List.{list_all};
 ghost use Rattle.std.specs.Char.{is_ascii_digit};

@@ -1,4 +1,4 @@
-//! Reads the arguments of the command line.
+//! Parses a command line: its command, and the value of each option, checked against its range.
 ghost use Rattle.std.specs.Prelude.{◌≡◌, ◌<◌, ◌^◌, Some, IfOk, codes, map, string_bytes};
 ghost use Rattle.clap.specs.Words.{first_of, found_of, rows_of};
 ghost use Rattle.unl_documents.specs.Results.{Gives};
@@ -18,7 +18,7 @@ use crate::{
 use clap::ArgMatches;
 use std::alloc::Global;
 
-/// The latest moment that `--now` accepts, in milliseconds since the epoch (chosen by this project).
+/// The latest time that `--now` accepts, in milliseconds since 1970 (chosen by this project).
 const LAST_MOMENT: u64 = 100_000_000_000_000;
 
 /// Reads the arguments of a command line, without the name of the program. The first argument names the command. Clap parses
@@ -26,7 +26,7 @@ const LAST_MOMENT: u64 = 100_000_000_000_000;
 /// one or more ASCII digits. A list has commas between its items; the items are trimmed, and empty ones are dropped.
 ///
 /// - `replay` has no options.
-/// - `check` has `--now`, a moment of at most 100,000,000,000,000 milliseconds, and `--word`, an unsigned 64-bit number.
+/// - `check` has `--now`, a time of at most 100,000,000,000,000 milliseconds, and `--word`, an unsigned 64-bit number.
 ///   Each defaults to 0.
 /// - `edge` has `--port` (default 3063), `--upstream` `HOST:PORT`, which is split at its last colon, `--upstream-tokens`, 1
 ///   to 8 with distinct environments, `--tokens`, 1 to 1,024, `--host` (default empty), `--workers`, 1 to 16 (default 4),

@@ -1,4 +1,4 @@
-//! Why arguments are refused.
+//! The error of parsing a command line.
 ghost use Rattle.std.specs.Prelude.{◌≡◌};
 ghost use Rattle.clap.specs.Words.{kind_of};
 ghost use Rattle.unl_words.specs.Refusals.{refusal_of, refusal_by};

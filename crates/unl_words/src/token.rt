@@ -1,4 +1,4 @@
-//! Tokens in the values of options.
+//! Checks the tokens in the values of options, and reads their environments.
 ghost use Rattle.std.specs.Prelude.{◌≡◌, Ok, IfOk, map};
 ghost use Rattle.std.specs.List.{list_all};
 ghost use Rattle.unl_documents.specs.Texts.{is_name};
@@ -53,7 +53,8 @@ pub(crate) fn all_tokens(alloc: Global, texts: &[Text], may_be_open: bool) -> Re
 }
 
 /// Whether a text is a token: it has at most 512 bytes, none of which is a carriage return, line feed or NUL, and its
-/// environment and projects are names. Only if `may_be_open` is true may the token leave its projects to the token server.
+/// environment and projects are names. A token with `[]` in place of a project, whose projects only the token server
+/// knows, is accepted only if `may_be_open` is true.
 pub(crate) fn is_token(alloc: Global, text: &str, may_be_open: bool) -> Result<bool, Memory>
     ensures { IfOk result (λ is. is ≡ is_token may_be_open text.now) }
 {

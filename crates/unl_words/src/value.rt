@@ -1,4 +1,4 @@
-//! Single texts in the values of options.
+//! Reads option values that are not numbers or lists: addresses, secrets, names, modes and a context.
 ghost use Rattle.std.specs.Prelude.{◌≡◌, ◌<◌, true, Ok, IfOk, option_copied, option_map};
 ghost use Rattle.std.specs.List.{list_all};
 ghost use Rattle.std.specs.Path.{rsplit_once};
@@ -37,7 +37,8 @@ pub(crate) fn line_or_empty(alloc: Global, given: Option<&str>) -> Result<Text, 
     accepted(alloc, text, is_line(text))
 }
 
-/// Reads a context from a query. Returns an empty context if the option is absent.
+/// Reads a context from the query of a URL, such as `userId=7&region=eu`. Returns an empty context if the option is
+/// absent.
 pub(crate) fn context_or_none(alloc: Global, given: Option<&str>) -> Result<Context, WordsRefusal>
     ensures gives { Gives Memory result (or_empty context_by (option_copied given.entry)) }
     ensures valid { IfOk result (λ context. is_within_limits context ≡ true) }
@@ -72,7 +73,7 @@ pub(crate) fn name(alloc: Global, given: Option<&str>) -> Result<Text, WordsRefu
     }
 }
 
-/// Reads a token that is presented to an upstream.
+/// Reads a token that is sent to an upstream.
 pub(crate) fn token(alloc: Global, given: Option<&str>) -> Result<Text, WordsRefusal>
     ensures gives { Gives Memory result (required token_of (option_copied given.entry)) }
     ensures valid { IfOk result (λ text. is_token true text ≡ true) }

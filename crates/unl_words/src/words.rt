@@ -1,26 +1,26 @@
-//! The commands that the arguments of the command line can name.
+//! The result of parsing a command line: a command, with the values of its options.
 use unl_context::Context;
 use unl_documents::{List, Text};
 
 /// A command of the program, with the values of its options.
 #[derive(Debug, Drop)]
 pub enum Words {
-    /// Reads lines and prints one line for each.
+    /// Reads lines of input, and prints for each line what an edge answers.
     Replay,
-    /// Runs a test file.
+    /// Reads a test file in the format of the Unleash client specification, and runs its tests.
     Check {
-        /// The moment of the evaluations, in milliseconds since the epoch: at most 100,000,000,000,000.
+        /// The time of the evaluations, in milliseconds since 1970: at most 100,000,000,000,000.
         now: u64,
-        /// The random word of the evaluations.
+        /// The 64-bit word from which the random numbers of the evaluations are derived.
         word: u64,
     },
     /// Serves evaluations, and polls its upstream.
     Edge(EdgeArguments),
     /// Accepts commands, and serves the resulting state.
     Upstream(UpstreamArguments),
-    /// Follows an upstream, and prints at each turn whether one feature is on.
+    /// Polls an upstream turn by turn, and prints after each turn whether one feature is on.
     Follow(FollowArguments),
-    /// Explains why a feature is on or off.
+    /// Prints why the feature in its input is on or off.
     Explain,
     /// Evaluates features of a large generated input.
     Load {
@@ -38,15 +38,16 @@ pub struct EdgeArguments {
     pub port: u16,
     /// The upstream's `HOST:PORT`.
     pub upstream: Text,
-    /// 1 to 8 tokens for the upstream, with distinct environments: one for each slot, in this order.
+    /// 1 to 8 tokens for the upstream, with distinct environments. Each token has one slot of the edge, in this
+    /// order: its environment, and the snapshot to evaluate.
     pub upstream_tokens: List<Text>,
-    /// The texts of the tokens that may be known: 1 to 1,024.
+    /// The tokens that the edge may accept from clients, if the upstream knows them: 1 to 1,024.
     pub tokens: List<Text>,
-    /// The name of the host.
+    /// The host name of the edge, for the strategy `applicationHostname`. It may be empty.
     pub host: Text,
     /// The number of threads that serve: 1 to 16.
     pub workers: u32,
-    /// The number of seconds between two turns: 1 to 3,600.
+    /// The number of seconds between two polls of the upstream: 1 to 3,600.
     pub interval: u32,
     /// The number of connections after which the port is closed, or 0 for never.
     pub connections: u64,
@@ -59,19 +60,19 @@ pub struct EdgeArguments {
 pub struct UpstreamArguments {
     /// The port to listen on, which isn't 0.
     pub port: u16,
-    /// The secret that a command must present, which isn't empty.
+    /// The secret that a request must send as its token to give a command. It isn't empty.
     pub secret: Text,
-    /// 1 to 8 distinct names.
+    /// The names of the environments: 1 to 8 distinct names.
     pub environments: List<Text>,
-    /// The tokens of clients. Together with those of frontends there are at most 1,024, with distinct texts.
+    /// The tokens that edges and backends may use. Together with `frontend_tokens` at most 1,024, with distinct texts.
     pub client_tokens: List<Text>,
-    /// The tokens of frontends.
+    /// The tokens that browsers may use.
     pub frontend_tokens: List<Text>,
     /// The number of connections after which the port is closed, or 0 for never.
     pub connections: u64,
-    /// The epoch in which each environment begins.
+    /// The epoch of the versions of all environments. It should be higher than at each earlier start.
     pub epoch: u64,
-    /// Whether commands are kept in a database instead of in memory.
+    /// Whether commands are kept in a SQLite database in memory, instead of a list in memory.
     pub sqlite: bool,
 }
 
@@ -80,15 +81,15 @@ pub struct UpstreamArguments {
 pub struct FollowArguments {
     /// The upstream's `HOST:PORT`.
     pub upstream: Text,
-    /// The token that is presented to the upstream.
+    /// The token that is sent to the upstream.
     pub token: Text,
     /// The name of the feature.
     pub feature: Text,
-    /// The context that the feature is evaluated for: the one in the query, with the environment of the token.
+    /// The context that the feature is evaluated for: read from a query, with its environment set to that of the token.
     pub context: Context,
     /// Whether only changes are requested from the upstream, instead of whole feeds.
     pub delta: bool,
-    /// The number of turns: 1 to 1,000,000.
+    /// The number of turns, each of which polls the upstream once: 1 to 1,000,000.
     pub turns: u32,
     /// The number of seconds between two turns: 1 to 3,600.
     pub interval: u32,
