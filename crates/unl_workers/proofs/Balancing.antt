@@ -1,4 +1,4 @@
--- Each operation on a queue of links keeps its rule.
+-- Lemmas: each operation on a queue of links keeps its rule (`IsBalanced`).
 use Rattle.std.proofs.Common.{◌≡◌, ◌≢◌, ℕ, ◌<◌, inl, inr, ⊎_elim, List, [], ◌∷◌, ◌++◌, set, sym, refl, ap, ◌∙◌, subst, arith}
 use mathlib.Core.Option.{some, some-ne-none}
 use lib.ListN.{get_elem?}

@@ -1,4 +1,4 @@
--- Lists that are built in a loop: the part that is done, and the part that remains.
+-- Lemmas about lists that are built in a loop: the part that is done, and the part that remains.
 use Rattle.std.proofs.Common.{◌≡◌, Option, ◌+◌, List, [], ◌∷◌, ◌++◌, length, map, arith, refl, sym, ap, ◌∙◌, append_assoc, append-nil}
 use Rattle.std.specs.Prelude.{filter_map, flat_map}
 use Rattle.std.specs.List.{All}
@@ -64,7 +64,7 @@ pub mapped_all : {X Y : Type 0} (f : X → Y) (done : List Y) (rest : List X) (a
 mapped_all {X} {Y} f done rest all so_far none =
     sym (append-nil done) ∙ ap (λ (list : List X). done ++ map f list) (sym (nothing rest none)) ∙ so_far
 
--- an empty list has nothing to find
+-- filtering an empty list returns an empty list
 pub none_found : {X Y : Type 0} (h : X → Option Y) (xs : List X) → length xs ≡ 0 → length (filter_map h xs) ≡ 0
 none_found h [] none = refl
 none_found h (x ∷ xs) none = absurd (omega (arith, none))

@@ -1,4 +1,4 @@
--- What the passes of finished workers show, and what all passes show together.
+-- Lemmas: the tallies of the passes of finished workers, and those of all passes together, prove that each link was served once.
 use Rattle.std.proofs.Common.{◌≡◌, ℕ, ◌+◌, ◌-◌, ◌<◌, List, [], ◌∷◌, ◌++◌, length, length-append, map, refl, sym, ap, ◌∙◌, subst, arith}
 use Rattle.std.specs.Prelude.{flat_map, sum_by}
 use Rattle.std.specs.List.{All, AllZip}
@@ -113,8 +113,8 @@ all_counted {S} {R} {L} Serves coming_of state_of given shares slots done served
     counted_each Serves coming_of state_of shares slots done served ∙ sym (weigh_ones (flat_map (λ (share : List L). share) shares))
     ∙ sym (same (λ _. 1)) ∙ weigh_ones given
 
--- The pass that has all parts at last: after a part was split off for each worker (`ready`), after the acceptor's work
--- (`accepted`), and after the workers' passes were joined to it (`whole`).
+-- The tallies of the acceptor's pass: at first, after a part was split off for each worker (`ready`), after the acceptor's work
+-- (`accepted`), and after the workers' passes were joined to it, so that it has all parts again (`whole`).
 module _ {L : Type 0} (first ready accepted whole : QueueTally L) (n k : ℕ) (links pieces : List L) (is_first : first ≡ first_tally)
     (splits : ready ≡ tally (first.parts - n) first.put first.taken first.may_put first.ends_seen)
     (accepts : accepted ≡ tally ready.parts (ready.put ++ links) ready.taken 0 ready.ends_seen)

@@ -1,4 +1,4 @@
--- Links that were taken and served, or handed out and put, and one more.
+-- Lemmas about links that were taken and served, or handed out and put: one more link.
 use Rattle.std.proofs.Common.{◌≡◌, ℕ, ◌+◌, List, [], ◌∷◌, ◌++◌, Option, map, refl, sym, ap, ◌∙◌, subst}
 use Rattle.std.proofs.Common.{append_assoc, append-nil}
 use Rattle.std.proofs.lemmas.List.{length-append, map-append}

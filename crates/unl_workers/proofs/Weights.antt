@@ -1,4 +1,4 @@
--- Weights of lists.
+-- Lemmas about the sum of the weights of a list (`weigh`).
 use Rattle.std.proofs.Common.{◌≡◌, ℕ, zero, suc, ◌+◌, ◌≤◌, List, [], ◌∷◌, ◌++◌, set, sym, refl, ap, arith}
 use mathlib.Core.Option.{some, some-injective, some-ne-none}
 use lib.ListN.{get_elem?}
@@ -9,19 +9,19 @@ module _ {X : Type 0} where
   weigh_append h [] ys = omega arith
   weigh_append h (x ∷ xs) ys = let rest = weigh_append h xs ys in omega arith
 
-  -- the weight of all after one was replaced
+  -- the sum after one item was replaced
   pub weigh_set : (f : X → ℕ) (xs : List X) (i : ℕ) (v w : X) → get_elem? xs i ≡ some v → weigh f (set xs i w) + f v ≡ weigh f xs + f w
   weigh_set f [] i v w at = absurd (some-ne-none v (sym at))
   weigh_set f (x ∷ xs) zero v w at = let same = ap f (some-injective x v at) in omega arith
   weigh_set f (x ∷ xs) (suc i) v w at = let rest = weigh_set f xs i v w at in omega arith
 
-  -- one weighs no more than all
+  -- the weight of one item is at most the sum
   pub weigh_at : (f : X → ℕ) (xs : List X) (i : ℕ) (v : X) → get_elem? xs i ≡ some v → f v ≤ weigh f xs
   weigh_at f [] i v at = absurd (some-ne-none v (sym at))
   weigh_at f (x ∷ xs) zero v at = let same = ap f (some-injective x v at) in omega arith
   weigh_at f (x ∷ xs) (suc i) v at = let rest = weigh_at f xs i v at in omega arith
 
-  -- if all have weight 0 by g, and each with weight 0 by g has weight 0 by f, then all have weight 0 by f
+  -- if the sum by `g` is 0, and each item of weight 0 by `g` has weight 0 by `f`, then the sum by `f` is 0
   pub weigh_none : (g f : X → ℕ) (xs : List X) → weigh g xs ≡ 0
       → ((j : ℕ) (u : X) → get_elem? xs j ≡ some u → g u ≡ 0 → f u ≡ 0) → weigh f xs ≡ 0
   weigh_none g f [] none idle = refl
@@ -30,7 +30,7 @@ module _ {X : Type 0} where
       let rest : weigh f xs ≡ 0 = weigh_none g f xs (omega (arith, none)) (λ j u at. idle (suc j) u at) in
       omega (arith, here, rest)
 
-  -- if one has all the weight by g, and each with weight 0 by g has weight 0 by f, then it has all the weight by f
+  -- if one item has the whole sum by `g`, and each item of weight 0 by `g` has weight 0 by `f`, then it has the whole sum by `f`
   pub weigh_alone : (g f : X → ℕ) (xs : List X) (i : ℕ) (v : X) → get_elem? xs i ≡ some v → weigh g xs ≡ g v
       → ((j : ℕ) (u : X) → get_elem? xs j ≡ some u → g u ≡ 0 → f u ≡ 0) → weigh f xs ≡ f v
   weigh_alone g f [] i v at all idle = absurd (some-ne-none v (sym at))

@@ -1,4 +1,4 @@
--- The workers among finished jobs.
+-- Lemmas about the workers among finished jobs.
 use Rattle.std.proofs.Common.{◌≡◌, List, [], ◌∷◌, ◌++◌, Option, Some, None, map, refl, sym, ap, ◌∙◌}
 use Rattle.std.specs.Prelude.{filter_map, option_to_list}
 use Rattle.std.specs.List.{AllZip, cons_option}

@@ -1,4 +1,7 @@
--- The rule of a queue of links. It relates the queued entries to what each pass knows (`views`).
+-- The invariant of a queue of links. Each entry is a link, or the end marker that closes the queue. Each thread has a pass, its right to
+-- use the queue, with a tally of the links that the thread put and took. The invariant relates the queued entries (`items`) to the
+-- tallies of all passes (`views`). A weight is any function from links to numbers: two lists have the same links, in any order, if
+-- they have the same sum for every weight.
 use Rattle.std.specs.Prelude.{◌≡◌, ◌⊎◌, ◌<◌, ℕ, ◌+◌, List, [], ◌∷◌}
 use mathlib.Core.Option.{some}
 use lib.ListN.{get_elem?}
@@ -13,7 +16,7 @@ module _ {L : Type 0} where
   of_link h (Link link) = h link
   of_link h End = 0
 
-  -- 1 for the end
+  -- the weight that counts ends: 1 for the end, 0 for a link
   abbrev pub of_end : QueueEntry L → ℕ
   of_end (Link link) = 0
   of_end End = 1
@@ -32,7 +35,7 @@ module _ {L : Type 0} where
   late (Link link ∷ items) = late items
   late (End ∷ items) = links_in items
 
-  -- one pass may put links, and the end was neither put nor taken
+  -- just one pass may put links, and the end marker was neither put nor taken
   pub record IsOpenQueue (items : List (QueueEntry L)) (views : List (QueueTally L)) : Type 0 where
     pub may_put : weigh (λ v. v.may_put) views ≡ 1
     pub ends_seen : weigh (λ v. v.ends_seen) views ≡ 0
@@ -44,8 +47,8 @@ module _ {L : Type 0} where
     pub late : late items ≡ 0
     pub none_left : 0 < weigh (λ v. v.ends_seen) views → links_in items ≡ 0
 
-  -- The passes have all 2^64 parts. With any weight for each link, the links that were put weigh as much as those that were taken
-  -- and those that are queued. A pass with no part knows nothing. And the queue is open or closed.
+  -- The parts of all passes add up to 2^64. For every weight `h`, the links that were put have the same sum as those that were taken and
+  -- those that are queued. A pass with no part has an empty tally. And the queue is open or closed.
   pub record IsBalanced (items : List (QueueEntry L)) (views : List (QueueTally L)) : Type 0 where
     pub whole : weigh (λ v. v.parts) views ≡ 18446744073709551616
     pub balanced : (h : L → ℕ) → weigh (λ v. weigh h v.put) views ≡ weigh (λ v. weigh h v.taken) views + weigh (of_link h) items

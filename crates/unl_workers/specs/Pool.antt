@@ -1,4 +1,4 @@
--- Links that are served concurrently, and the job that runs at the same time.
+-- The jobs of a pool, and the result of running it.
 use Rattle.std.specs.Prelude.{◌≡◌, ◌≤◌, ℕ, List, Option, Some, None, Result, Ok, Err, IfOk, OnErr}
 use Rattle.crossbeam_queue.specs.Passes.{view, IsSamePass}
 use Rattle.unl_base.specs.Doors.{DoorState}
@@ -21,7 +21,7 @@ abbrev pub worker_of : {S R L W B : Type 0} → PoolJob S R L W B → Option (Wo
 worker_of (Worker worker) = Some worker
 worker_of (Other job) = None
 
--- the slot of a worker
+-- the slot of a worker: its server and its draws
 abbrev pub slot_of : {S R L W : Type 0} → WorkerOf S R L W → WorkerSlot S R
 slot_of worker = worker.slot
 
@@ -29,7 +29,7 @@ slot_of worker = worker.slot
 abbrev pub taken_by : {S R L W : Type 0} → WorkerOf S R L W → List L
 taken_by worker = (view worker.pass).taken
 
--- a worker took links until it took the end, and its slot served them
+-- a worker took links from the queue until it took the entry that marks the end of the queue, and served them with its slot's server
 pub record RunsWorker
     {S R L W : Type 0} (Serves : S → Coming → LinkView → LinkView → S → Coming → Type 0) (Keeps : S → S → Type 0)
     (coming_of : R → Coming) (state_of : L → LinkView) (before after : WorkerOf S R L W) : Type 0 where
@@ -37,7 +37,7 @@ pub record RunsWorker
   pub same : IsSamePass before.pass after.pass
   pub took : TakesAndServesAt Serves coming_of state_of (view before.pass) before.slot (view after.pass) after.slot
 
--- a worker did its work, or another job did
+-- the effect of running a job of the pool, which is a worker or the other job
 abbrev pub PoolJobWorked :
     {S R L W B : Type 0} → (WorkerOf S R L W → WorkerOf S R L W → Type 0) → (B → B → Type 0)
     → PoolJob S R L W B → PoolJob S R L W B → Type 0
@@ -46,8 +46,8 @@ PoolJobWorked RunsWorker Worked (Worker before) (Other after) = ⊥
 PoolJobWorked RunsWorker Worked (Other before) (Worker after) = ⊥
 PoolJobWorked RunsWorker Worked (Other before) (Other after) = Worked before after
 
--- The door handed out as many links as the result says, and is closed unless it failed; after a fault it is unchanged.
--- `accepted_of` gives what the door handed out.
+-- The effect on the door. If the pool ran, the door handed out the number of links in the result's `AcceptOutcome` (`accepted_of`), and is
+-- closed unless it failed. If the pool did not run, the door is unchanged.
 abbrev pub AcceptedIn : {A : Type 0} → (A → AcceptOutcome) → Result A PoolFault → DoorState → DoorState → Type 0
 AcceptedIn accepted_of (Ok done) before after = AcceptsAll (accepted_of done) before after
 AcceptedIn accepted_of (Err fault) before after = after ≡ before

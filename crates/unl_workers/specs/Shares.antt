@@ -1,4 +1,6 @@
--- The links of a door, shared among worker slots. `Serves` and `coming_of` are those of `ServesSlot`.
+-- Which links of a door each worker slot served. `Serves` is the effect of serving one link: it relates a server, its coming draws and
+-- the link before, to the link, the server and its coming draws after. `coming_of` returns the coming draws of a supply of draws.
+-- `state_of` returns the view of a link: its bytes left, its bytes sent and its fault count.
 use Rattle.std.specs.Prelude.{◌≡◌, ℕ, List, [], ◌∷◌, Option, flat_map, length, map, sum_by}
 use Rattle.unl_base.specs.Doors.{DoorState}
 use Rattle.unl_server.specs.Handling.{Coming}
@@ -9,7 +11,7 @@ use Rattle.unl_workers.specs.Taking.{ServesEach, with_draws}
 use Rattle.unl_workers.specs.Tallies.{SameLinks}
 use Rattle.unl_workers.specs.declared.worker.WorkerSlot.{WorkerSlot}
 
--- a slot served these links, one after another, and counts them
+-- a slot served these links, one after another, and its count of links is their number
 pub record ServedAt
     {S R L : Type 0} (Serves : S → Coming → LinkView → LinkView → S → Coming → Type 0) (coming_of : R → Coming) (state_of : L → LinkView)
     (links : List L) (before after : WorkerSlot S R) : Type 0 where

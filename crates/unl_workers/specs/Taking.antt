@@ -1,5 +1,5 @@
 -- Links that were taken from a queue and served, one after another. `Serves before link link_after after` is the effect of
--- serving one link: the server before, the link before and after, the server after. `state_of` gives the state of a link.
+-- serving one link: the server before, the link before and after, the server after. `state_of` returns the state of a link.
 use Rattle.std.specs.Prelude.{◌≡◌, ℕ, List, [], ◌∷◌, ◌++◌, length, map}
 use Rattle.unl_server.specs.Handling.{Coming}
 use Rattle.unl_server.specs.Links.{LinkView}
@@ -19,7 +19,8 @@ ServesEach Serves [] before after = after ≡ before
 ServesEach {S} Serves (link ∷ links) before after =
     (middle : S) × ServesLink Serves link before middle × ServesEach Serves links middle after
 
--- `count` links were taken, and each was served, in this order. `ends_seen` is 1 if the end was taken.
+-- `count` links were taken from the queue, and each was served, in this order. `ends_seen` is 1 if the entry that marks the end of the
+-- queue was taken.
 pub record TakesAndServes
     {S L : Type 0} (Serves : S → LinkView → LinkView → S → Type 0) (state_of : L → LinkView) (count ends_seen : ℕ)
     (view_before : QueueTally L) (before : S) (view_after : QueueTally L) (after : S) : Type 0 where
@@ -28,12 +29,12 @@ pub record TakesAndServes
   pub served : ServesEach Serves (map state_of links) before after
   pub counted : length links ≡ count
 
--- serving a link, with the server and its coming draws as one record
+-- the effect of serving a link, with the server and its coming draws as one record
 abbrev pub with_draws : {S : Type 0} → (S → Coming → LinkView → LinkView → S → Coming → Type 0)
     → ServerAndDraws S → LinkView → LinkView → ServerAndDraws S → Type 0
 with_draws Serves before link link_after after = Serves before.server before.coming link link_after after.server after.coming
 
--- as many links as the slot counts were taken and served there, and then the end was taken
+-- the worker with this slot took and served `after.links` links (a count), and then took the entry that marks the end of the queue
 abbrev pub TakesAndServesAt :
     {S R L : Type 0} → (S → Coming → LinkView → LinkView → S → Coming → Type 0) → (R → Coming) → (L → LinkView)
     → QueueTally L → WorkerSlot S R → QueueTally L → WorkerSlot S R → Type 0

@@ -1,4 +1,4 @@
-//! Accepts links.
+//! Accepts the links of a door, and queues them for the workers.
 ghost use Rattle.std.specs.Prelude.{◌≡◌, ◌<◌, false};
 ghost use Rattle.crossbeam_queue.specs.Passes.{view, IsSamePass};
 ghost use Rattle.unl_base.specs.Doors.{IsListening};
@@ -21,13 +21,13 @@ pub struct AcceptOutcome {
     pub door: Result<(), Failed>,
 }
 
-/// Accepts the links of a listening door and queues them for the workers.
+/// The job that accepts the links of a listening door and queues them for the workers.
 pub(crate) struct Acceptor<'a, D: Door, W> {
     pub door: &'a mut D,
     pub queue: &'a LinkQueue<D::L>,
     pub pass: QueuePass<D::L>,
     pub rt: &'a W,
-    /// Whether it has closed the queue.
+    /// Whether the acceptor has closed the queue.
     pub closed: bool,
     /// The number of links queued, and whether the door failed.
     pub outcome: AcceptOutcome,

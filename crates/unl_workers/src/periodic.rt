@@ -1,4 +1,4 @@
-//! A job that runs periodically, concurrently with the workers.
+//! A task that runs periodically, concurrently with the workers.
 ghost use Rattle.std.specs.Prelude.{◌≡◌, ◌<◌, ◌-◌, IfSome, IsTrue, option_map};
 ghost use Rattle.unl_workers.specs.Periodic.{MakesTurns};
 
@@ -8,15 +8,17 @@ use std::alloc::Global;
 use std::sync::Wait;
 use unl_base::{Job, Pace};
 
-/// A job that runs in turns. State that it changes and that can't be dropped is borrowed, each with a lifetime of its own.
+/// A task that is repeated: each turn does its work once. If a task changes state whose type can't be dropped, the
+/// implementation borrows that state, with a separate lifetime parameter for each borrow.
 pub trait PeriodicTask {
-    /// The effect of a turn.
+    /// The effect of a turn: the task before and after it.
     ghost turned: { Self → Self → Type 0 };
 
-    /// The relation that every turn preserves: at least, it holds the same references.
+    /// The relation between the task before and after any number of turns. It includes at least that the task still
+    /// holds the same references.
     ghost keeps: { Self → Self → Type 0 };
 
-    /// Makes a turn. The job handles its own failures, including out of memory.
+    /// Makes a turn. The task handles its own failures, including out of memory.
     fn turn(&mut self, alloc: Global)
         ensures turned { turned self.old self.new }
         ensures keeps { keeps self.old self.new };
@@ -28,7 +30,7 @@ pub trait PeriodicTask {
     ghost keeps_on: { (first next last : Self) → keeps first next → keeps next last → keeps first last };
 }
 
-/// Makes turns at a pace.
+/// The job that makes the turns of a periodic task at a pace, until the pace ends or the queue is closed.
 #[derive(Drop)]
 pub(crate) struct PeriodicJob<'a, 'n, 'p, N, T, L, W> {
     pub turn: &'n mut N,
@@ -98,7 +100,7 @@ fn make_turns<N: PeriodicTask, T: Pace, L, W: Wait>(
     wait_forever(rt)
 }
 
-/// Whether the pace has a next turn, and links may still come. Waits for the turn.
+/// Waits for the next turn of the pace. Returns whether there is one and the queue is not closed.
 fn has_next_turn<T: Pace, L, W: Wait>(rt: &W, queue: &LinkQueue<L>, pace: &mut T) -> bool
     ensures asked { T.turns pace.new ≡ option_map (λ n. n - 1) (T.turns pace.old) }
     ensures had { IsTrue result → IfSome (T.turns pace.old) (λ n. 0 < n) }

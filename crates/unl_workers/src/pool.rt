@@ -1,4 +1,4 @@
-//! Serves the links of a door concurrently.
+//! Serves the links of a door concurrently, by a pool of workers.
 ghost use Rattle.std.specs.Prelude.{◌≡◌, ◌<◌, ◌≤◌, ◌-◌, [], false, IfOk, IsErrOf};
 ghost use Rattle.std.specs.Prelude.{filter_map, length, map, vec_capacity, vec_len};
 ghost use Rattle.std.specs.List.{All, AllZip};
@@ -21,18 +21,18 @@ use std::sync::Wait;
 use thiserror::Error;
 use unl_base::{Door, Draws, Job, Pace, SpawnFault, Spawner};
 
-/// The result of a run, after the door was closed or failed.
+/// The result of a run of the pool, after the door was closed or failed.
 #[derive(Drop)]
 pub struct PoolOutcome<S, R> {
     /// The number of links that the door handed out, and whether it failed.
     pub accepted: AcceptOutcome,
-    /// The number of turns made.
+    /// The number of turns that the periodic task made.
     pub turns: u64,
-    /// The slots in their order, each with the number of links served there.
+    /// The worker slots in their order, each with the number of links that its worker served.
     pub slots: Vec<WorkerSlot<S, R>>,
 }
 
-/// Why no link was accepted.
+/// Why the pool did not run, so that no link was accepted.
 #[derive(Clone, Copy, Debug, Error, PartialEq, Eq)]
 pub enum PoolFault {
     /// A thread couldn't be started. The spawner incremented its fault count.
@@ -106,11 +106,11 @@ where
     })
 }
 
-/// What the door handed out, the slots, and the other job.
+/// The outcome of accepting, the slots, and the other job; or why the pool did not run.
 type Prepared<S, R, B> = Result<(AcceptOutcome, Vec<WorkerSlot<S, R>>, B), PoolFault>;
 
-/// As `run_pool`, with an acceptor, workers and another job that have not started. Returns the door, and the slots in the vector
-/// `room`.
+/// Runs an acceptor on this thread, and workers and another job concurrently, none of which has started yet. Returns
+/// the door, and the slots of the workers in the vector `room`.
 fn run_prepared<'a, S, R, D: Door, P: Spawner, B: Job, W: Wait + Sync>(
     spawner: &mut P,
     queue: &LinkQueue<D::L>,
@@ -166,7 +166,8 @@ where
     }
 }
 
-/// Does nothing. It ties a reference, for the borrow checker, to the variable that it was borrowed from.
+/// Does nothing at run time. The call is the last use of a reference that a function returned: the borrow of the
+/// variable ends here, with the value behind the reference unchanged.
 fn take_back<T>(x: &mut T)
     ensures { x.new ≡ x.old }
 {}

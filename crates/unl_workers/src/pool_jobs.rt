@@ -1,4 +1,4 @@
-//! Jobs that run concurrently with the thread that accepts links.
+//! The jobs of a pool, which run concurrently with the thread that accepts links: its workers, and one other job.
 ghost use Rattle.std.specs.Prelude.{◌≡◌, ◌<◌, ◌≤◌, ◌+◌, ◌-◌, ◌++◌, [], IfOk, OnErr, OnOk};
 ghost use Rattle.std.specs.Prelude.{filter_map, flat_map, length, map, option_to_list, vec_capacity, vec_len};
 ghost use Rattle.std.specs.List.{All, AllZip};
@@ -16,7 +16,7 @@ use std::alloc::{AllocError, Global};
 use std::sync::Wait;
 use unl_base::{Draws, Job, Link, SpawnFault, Spawner};
 
-/// A job with a thread of its own: a worker, or another job.
+/// A job of a pool, with a thread of its own: a worker, or the other job.
 #[derive(Drop)]
 pub(crate) enum PoolJob<'a, S, R, L, W, B> {
     Worker(Worker<'a, S, R, L, W>),
@@ -40,8 +40,9 @@ impl<'a, S: LinkHandler, R: Draws, L: Link + Drop, W: Wait, B: Job> Job
     fn cancel(&mut self) {}
 }
 
-/// A worker for each slot, each with a pass of its own, with capacity for one more job; and an empty vector with capacity for all
-/// slots.
+/// Creates a worker for each slot (a server and its draws), each with a pass of its own, split off from `pass`: the
+/// worker's right to use the queue. The vector of workers has capacity for one more job. Also returns an empty vector
+/// with capacity for all slots.
 ///
 /// # Errors
 /// Out of memory.
@@ -79,7 +80,7 @@ where
     Ok((jobs, room))
 }
 
-/// A worker for a slot, with this pass.
+/// Creates a worker for a slot, with this pass.
 fn new_worker<'a, S, R, L, W>(
     alloc: Global,
     rt: &'a W,
@@ -135,7 +136,8 @@ where
     }
 }
 
-/// The slots of the workers that have taken the end, in the vector `room`. Their passes are joined to `pass`.
+/// Returns the slots of the workers, in the vector `room`, and joins their passes to `pass`. Each worker has finished:
+/// it has taken the end marker of the queue.
 pub(crate) fn collect_slots<S: Drop, R: Drop, L: Drop, W, B: Drop>(
     queue: &LinkQueue<L>,
     pass: &mut QueuePass<L>,
@@ -161,7 +163,7 @@ pub(crate) fn collect_slots<S: Drop, R: Drop, L: Drop, W, B: Drop>(
     slots
 }
 
-/// Appends the slot of a worker, for which there is capacity, and joins its pass to `pass`.
+/// If the job is a worker, appends its slot to `slots`, which has capacity for it, and joins its pass to `pass`.
 fn collect_slot<S: Drop, R: Drop, L: Drop, W, B: Drop>(
     queue: &LinkQueue<L>,
     pass: &mut QueuePass<L>,

@@ -1,4 +1,4 @@
-//! A queue of links that wait for a worker.
+//! A queue of links that wait for a worker, shared by threads.
 ghost use Rattle.std.specs.Prelude.{◌≡◌, ◌<◌, ◌^◌, IfOk, MatchOption};
 ghost use Rattle.crossbeam_queue.specs.Fifo.{Pushes};
 ghost use Rattle.crossbeam_queue.specs.Passes.{view, IsSamePass, ruled_capacity};
@@ -17,14 +17,16 @@ use crossbeam_queue::{Pass, RuledArrayQueue};
 use std::alloc::Global;
 use std::sync::{Condvar, Mutex, Wait};
 
-/// The right of one thread to use a queue, with the tally of what that thread put and took. It is zero-sized.
+/// The right of one thread to use a queue. In contracts it has a tally of the links that the thread put and took; at
+/// run time it is zero-sized.
 ///
-/// The passes of a queue share 2^64 parts; one pass with all of them knows everything that was put and taken.
+/// The passes of a queue share 2^64 parts. The tally of a pass with all parts has all links that were put and taken.
 pub type QueuePass<L> = Pass<QueueEntry<L>, QueueTally<L>>;
 
 /// A queue of links that wait for a worker. Threads share it by reference, each with a pass of its own.
 ///
-/// Each entry is put and taken while `closed` is locked, so that a thread waits for an entry or for room only at the condition variables.
+/// Each entry is put and taken while `closed` is locked. A thread that must wait does so at a condition variable:
+/// `news` for an entry, `room` for free room.
 #[derive(Drop)]
 pub struct LinkQueue<L> {
     links: RuledArrayQueue<QueueEntry<L>, QueueTally<L>, BalancedLinks>,
@@ -42,8 +44,8 @@ impl<L> LinkQueue<L> {
 }
 
 impl<L: Drop> LinkQueue<L> {
-    /// Creates an empty queue with room for 64 links and the end marker. Returns it with a pass that has all parts and may put
-    /// links.
+    /// Creates an empty queue with room for 64 links and the end marker, the entry that closes the queue. Returns it
+    /// with a pass that has all parts and may put links.
     ///
     /// # Errors
     /// `LinksMemory`: out of memory.
@@ -60,7 +62,8 @@ impl<L: Drop> LinkQueue<L> {
         Ok((queue, pass))
     }
 
-    /// Returns a pass for another thread: one part of this pass, which has put and taken nothing and may not put links.
+    /// Splits one part off this pass, as a new pass for another thread. The new pass has put and taken nothing, and may
+    /// not put links.
     pub fn split_pass(&self, pass: &mut QueuePass<L>) -> QueuePass<L>
         requires queue { IsPassOfQueue self.now pass.old }
         requires parts { 1 < (view pass.old).parts }
@@ -81,8 +84,8 @@ impl<L: Drop> LinkQueue<L> {
         self.links.absorb::<Parts>(pass, other)
     }
 
-    /// Does nothing at run time. Proves that, if the pass has all parts and the end marker was taken, the links put are those
-    /// taken.
+    /// Does nothing at run time. Proves: if the pass has all parts and the end marker was taken, the links that were
+    /// put are the links that were taken.
     pub fn all_taken(&self, pass: &mut QueuePass<L>)
         requires queue { IsPassOfQueue self.now pass.old }
         requires whole { (view pass.old).parts ≡ 2 ^ 64 }
@@ -102,8 +105,8 @@ impl<L: Drop> LinkQueue<L> {
         self.push::<PutsEntry, W>(rt, pass, QueueEntry::Link(link), MOST_LINKS);
     }
 
-    /// Closes the queue: no more links come from now on. Wakes every thread that waits for a link. Queued links are still
-    /// taken.
+    /// Closes the queue: no more links come from now on. Wakes every thread that waits for a link. Queued links are
+    /// still taken.
     pub fn close<W: Wait>(&self, rt: &W, pass: &mut QueuePass<L>)
         requires queue { IsPassOfQueue self.now pass.old }
         requires parts { 0 < (view pass.old).parts }
@@ -115,7 +118,8 @@ impl<L: Drop> LinkQueue<L> {
         *self.closed.lock(rt) = true;
     }
 
-    /// Takes the oldest link. Blocks while the queue is empty and not closed. Returns `None` once it is empty and closed.
+    /// Takes the oldest link. Blocks while the queue is empty and not closed. Returns `None` once it is empty and
+    /// closed.
     pub fn take<W: Wait>(&self, rt: &W, pass: &mut QueuePass<L>) -> Option<L>
         requires queue { IsPassOfQueue self.now pass.old }
         requires parts { 0 < (view pass.old).parts }

@@ -1,4 +1,4 @@
-//! A queue of links that wait for a worker, without a lock.
+//! A queue of links that wait for a worker, for one thread and without a lock. It is the model of `LinkQueue` in tests.
 ghost use Rattle.std.specs.Prelude.{◌≡◌, ◌++◌, ◌∷◌, [], true, false, length, IfOk, not};
 ghost use Rattle.unl_workers.specs.Links.{Links, Pops, Pushes, is_full, is_waiting};
 

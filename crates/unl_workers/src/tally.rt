@@ -1,4 +1,5 @@
-//! What a queue of links holds, and what each thread knows of the links that passed through it.
+//! The entries of a queue of links, and the rules by which contracts record the links that each thread put and took. A
+//! thread uses the queue by a pass, and the tally of the pass is that record.
 
 use crossbeam_queue::protocol::{Join, Lesson, Outcome, Protocol, Split};
 use std::collections::LinkedList;
@@ -12,7 +13,8 @@ pub enum QueueEntry<L> {
     End,
 }
 
-/// What the holder of a pass has put into a queue and taken from it. It is used only in contracts; no value of it is created.
+/// What the holder of a pass has put into a queue and taken from it. It is used only in contracts; no value of it is
+/// created.
 pub struct QueueTally<L> {
     /// The number of parts that this pass has of the 2^64 parts that all passes of the queue share.
     pub parts: u64,
@@ -20,13 +22,13 @@ pub struct QueueTally<L> {
     pub put: LinkedList<L>,
     /// The links that were taken, in order.
     pub taken: LinkedList<L>,
-    /// 1 if the pass may put links, 0 otherwise.
+    /// 1 if the pass may put links and close the queue, 0 otherwise.
     pub may_put: u64,
-    /// 0 if the end was not taken.
+    /// Above 0 if this pass, or a pass that was joined to it, has taken the end; 0 otherwise.
     pub ends_seen: u64,
 }
 
-/// The rule of a queue: the links that were put are those that were taken and those that are queued.
+/// The rule that a queue keeps: the links that were put are exactly those that were taken and those that are queued.
 pub struct BalancedLinks;
 
 impl<L> Protocol<QueueEntry<L>, QueueTally<L>> for BalancedLinks {
@@ -38,7 +40,7 @@ impl<L> Protocol<QueueEntry<L>, QueueTally<L>> for BalancedLinks {
     ghost first = { first_tally };
 }
 
-/// An entry is put: a link; or the end, by the pass that might put links and may not afterwards.
+/// The effect on the tally when an entry is put. If the entry is the end, the pass may put nothing afterwards.
 pub struct PutsEntry;
 
 impl<L> Outcome<QueueEntry<L>, QueueTally<L>> for PutsEntry {
@@ -48,7 +50,7 @@ impl<L> Outcome<QueueEntry<L>, QueueTally<L>> for PutsEntry {
     ghost then = { λ v x w. w ≡ putting v x };
 }
 
-/// The end is put back by a pass that took it.
+/// The effect on the tally when a thread that took the end puts it back for the next thread: none.
 pub struct PutsEndBack;
 
 impl<L> Outcome<QueueEntry<L>, QueueTally<L>> for PutsEndBack {
@@ -57,7 +59,7 @@ impl<L> Outcome<QueueEntry<L>, QueueTally<L>> for PutsEndBack {
     ghost then = { λ v x w. w ≡ v };
 }
 
-/// An entry is taken.
+/// The effect on the tally when an entry is taken.
 pub struct TakesEntry;
 
 impl<L> Outcome<QueueEntry<L>, QueueTally<L>> for TakesEntry {
@@ -67,14 +69,15 @@ impl<L> Outcome<QueueEntry<L>, QueueTally<L>> for TakesEntry {
     ghost then = { λ v x w. w ≡ taking v x };
 }
 
-/// Nothing is learned.
+/// A use of the queue from which no fact about the tallies is concluded.
 pub struct NoLesson;
 
 impl<L> Lesson<QueueEntry<L>, QueueTally<L>> for NoLesson {
     ghost fact = { λ v items. Unit {0} };
 }
 
-/// Once the end was taken, the links that were put are those that were taken.
+/// The fact that is concluded from a pass with all parts: if the end was taken, the links that were put are those that
+/// were taken.
 pub struct AllTaken;
 
 impl<L> Lesson<QueueEntry<L>, QueueTally<L>> for AllTaken {
@@ -84,7 +87,7 @@ impl<L> Lesson<QueueEntry<L>, QueueTally<L>> for AllTaken {
     ghost fact = { λ v items. 0 < v.ends_seen → SameLinks v.put v.taken };
 }
 
-/// One part of a pass becomes a pass of its own, and two passes become one.
+/// How a pass is split, so that one of its parts becomes a new pass, and how two passes are joined.
 pub struct Parts;
 
 impl<L> Split<QueueTally<L>> for Parts {

@@ -13,18 +13,18 @@ use std::sync::Wait;
 use unl_base::{Draws, Link};
 use unl_server::Server;
 
-/// A server that is always ready for a link.
+/// A server with no precondition: it may always be passed a link.
 pub trait LinkHandler: Server {
     /// The precondition of `serve_link` always holds.
     ghost always: { (server : Self) → Self.Server.fits server };
 }
 
-/// The slot of a worker: a server and a source of draws of its own.
+/// What one worker owns: a server, and a supply of draws (a time and a random word for each request).
 #[derive(Drop)]
 pub struct WorkerSlot<S, R> {
     /// Serves each link.
     pub server: S,
-    /// Draws for the requests of its links.
+    /// The draws for the requests on these links.
     pub draws: R,
     /// The number of links served in the last run.
     pub links: u64,
@@ -43,7 +43,7 @@ impl<S, R> WorkerSlot<S, R> {
     }
 }
 
-/// Serves the links of a queue.
+/// A worker, which takes links from a queue and serves them.
 #[derive(Drop)]
 pub(crate) struct Worker<'a, S, R, L, W> {
     pub slot: WorkerSlot<S, R>,
@@ -74,8 +74,8 @@ pub(crate) fn serve_all<S: LinkHandler, R: Draws, L: Link + Drop, W: Wait>(
     );
 }
 
-/// Does the work of one worker, which has a pass of the queue: takes links from the queue and serves each, until the queue is
-/// closed and empty. Returns how many were served. It may block.
+/// Does the work of one worker: takes links from the queue and serves each, until the queue is closed and empty.
+/// Returns how many were served. It may block. `pass` is the worker's right to use the queue.
 pub fn run_worker<S: LinkHandler, R: Draws, L: Link + Drop, W: Wait>(
     alloc: Global,
     rt: &W,

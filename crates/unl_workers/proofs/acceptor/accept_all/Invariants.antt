@@ -5,7 +5,7 @@ use Rattle.unl_workers.specs.Accepting.{HandsOut}
 use Rattle.unl_workers.specs.Queueing.{QueuesLinks}
 use Rattle.unl_workers.proofs.acceptor.accept_all.Given as goal
 
--- this many links were handed out and put
+-- `count` links were handed out and put so far
 abbrev pub invariant-loop-count : goal.invariant-loop-count
 invariant-loop-count g l = record {
   hands : HandsOut l.count (g.D.Door.state l.initial.door) (g.D.Door.state l.door);

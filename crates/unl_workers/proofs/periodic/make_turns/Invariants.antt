@@ -3,7 +3,7 @@ use Rattle.std.specs.Prelude.{option_map, IfSome}
 use Rattle.unl_workers.specs.Periodic.{Turns}
 use Rattle.unl_workers.proofs.periodic.make_turns.Given as goal
 
--- this many turns were made
+-- `made` turns were made so far
 abbrev pub invariant-loop-made : goal.invariant-loop-made
 invariant-loop-made g l = record {
   made : Turns g.N.PeriodicTask.turned l.made l.initial.turn l.turn;

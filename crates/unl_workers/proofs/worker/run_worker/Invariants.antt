@@ -4,7 +4,7 @@ use Rattle.unl_workers.specs.Taking.{TakesAndServes, with_draws}
 use Rattle.unl_workers.specs.Serving.{ServesMany, serving}
 use Rattle.unl_workers.proofs.worker.run_worker.Given as goal
 
--- this many links were taken and served
+-- `served` links were taken and served so far
 abbrev pub invariant-loop-served : goal.invariant-loop-served
 invariant-loop-served g l = record {
   served : ServesMany g.S.Server.serves l.served (serving l.initial.server (g.R.Draws.coming l.initial.draws))
