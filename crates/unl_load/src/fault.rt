@@ -1,4 +1,4 @@
-//! The errors of a load.
+//! The errors of the command `load`.
 ghost use Rattle.std.specs.Prelude.{◌≡◌};
 ghost use Rattle.unl_load.specs.declared.fault.LoadFault.TheVariants.{Memory as out_of_memory, WriteFault as write_fault};
 
@@ -7,7 +7,7 @@ use thiserror::Error;
 use unl_base::Failed;
 use unl_documents as documents;
 
-/// Why a load ended before its line was written in full.
+/// Why the command `load` ended before its line of counts was written in full.
 #[derive(Clone, Copy, Debug, PartialEq, Eq, Error)]
 pub enum LoadFault {
     /// The sink failed and incremented its fault count.

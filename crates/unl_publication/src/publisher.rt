@@ -39,8 +39,9 @@ impl<'a, W: Wait, T: Counted<I> + Drop, I: Drop, P: Rules<T, I>> Publisher<'a, W
     ///
     /// # Errors
     ///
-    /// Fails if it runs out of memory, or if the install or its copy can't be absorbed. Nothing is published then. If
-    /// the install was already appended to the log of `left_right` when the call failed, every later call fails too.
+    /// Fails if it runs out of memory, or if the install can't be applied to one of the two copies of the value that
+    /// `left_right` keeps. Nothing is published then. If the install was already appended to the log of `left_right`
+    /// when the call failed, every later call fails too.
     pub fn publish(&mut self, what: I) -> Result<u64, AllocError>
         requires { MayPublish T.applied T.allows (published self.old) what }
         ensures published { MatchResult result
