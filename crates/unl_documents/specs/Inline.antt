@@ -40,7 +40,7 @@ inlined_strategy segments s = record {
   variants = s.variants;
 }
 
--- The feature with each of its strategies inlined.
+-- The feature with the segments inlined into each of its strategies.
 unfoldable pub inlined_feature : List Segment → Feature → Feature
 inlined_feature segments f = record {
   name = f.name;

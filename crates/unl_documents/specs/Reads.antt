@@ -1,5 +1,5 @@
--- Which document a JSON value represents. The definitions here compare key by key. They ignore limits and the order in
--- which keys are read.
+-- Which document a JSON value represents. The definitions here compare the value and the document key by key. They ignore limits
+-- and the order in which keys are read.
 use Rattle.std.specs.Prelude.{◌≡◌, ℕ, List, [], ◌∷◌, codes, Bool, true, false, Option, None, Some, MatchOption}
 use Rattle.serde_json.specs.Data.{Data, unsigned, null, boolean, number, string, array, object, Items, no_items, item, Members}
 use Rattle.serde_json.specs.Data.{no_members, member}
@@ -97,7 +97,8 @@ MayHave {T} Is field value o = MatchOption (at field value) (o ≡ None) (λ fou
 abbrev pub HasList : {T : Type 0} → (Data → T → Type 0) → Field → Data → List T → Type 0
 HasList Is = HasOr [] (IsList Is)
 
--- The key has a JSON array of objects, in any order, that represent the items of `ys`; `ys` is sorted by `by`.
+-- The key has a JSON array of objects, in any order, that represent the items of `ys`; or it is absent or null, and `ys` is empty.
+-- `ys` is sorted by `by`, without duplicates.
 abbrev pub HasSorted : {T : Type 0} → (T → List ℕ) → (Data → T → Type 0) → Field → Data → List T → Type 0
 HasSorted {T} by Reads field value ys = (xs : List T) × HasList (IsObject Reads) field value xs × IsSorting by xs ys
 

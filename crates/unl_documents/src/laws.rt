@@ -62,8 +62,8 @@ pub fn objects_have_their_first_fault()
     ensures strategies { (value : Data) → fault_of (strategy_of value) ≡ first (faults_of_strategy value) }
 {}
 
-/// A valid document that is written and read again is unchanged. For a feed this holds if its state has at most 10,000
-/// features and 1,000 segments.
+/// A valid feature or segment that is written and read again is unchanged. So are the epoch, the number and the state
+/// of a feed, if the state is valid and has at most 10,000 features and 1,000 segments.
 pub fn what_is_written_is_read()
     ensures feature { (f : Feature) → IsValidFeature f → document feature_of (feature_data f) ≡ Ok f }
     ensures segment { (s : Segment) → IsValidSegment s → document segment_of (segment_data s) ≡ Ok s }
