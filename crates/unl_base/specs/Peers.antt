@@ -14,7 +14,7 @@ pub record PeerState : Type 0 where
   pub earlier : Option (List (List ℕ))
   pub replies : Option (List (List ℕ))
 
--- A stream that is neither a link nor a peer has no state besides its bytes.
+-- The state, besides its bytes, of a stream that is neither a link nor a peer: not connected, and nothing is observable.
 abbrev pub no_other_parts : PeerState
 no_other_parts = record { connected = false; left = None; sent = None; earlier = None; replies = None }
 

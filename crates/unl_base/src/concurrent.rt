@@ -78,7 +78,7 @@ fn take_back<T>(x: &mut T)
     ensures { x.new ≡ x.old }
 {}
 
-/// The promise of a running job: `work` was called once on the job `was`, and the thread returns the job after it.
+/// The promise of a running job: the thread calls `work` once on the job `was`, and returns the resulting job.
 #[derive(Drop)]
 struct Worked<J> {
     was: Snapshot<J>,

@@ -25,7 +25,7 @@ fn next_reply(replies: &mut VecDeque<Vec<u8>>) -> Vec<u8>
 ///
 /// # Errors
 ///
-/// `BaseMemory`: out of memory for it. Nothing changes.
+/// `BaseMemory`: out of memory. Nothing changes.
 fn add_copy(texts: &mut Vec<Vec<u8>>, text: &[u8]) -> Result<(), BaseMemory>
     ensures ok { OnOk result (map (λ text. text.items) texts.new.items
         ≡ map (λ text. text.items) texts.old.items ++ text.now ∷ []) }
@@ -42,7 +42,7 @@ fn add_copy(texts: &mut Vec<Vec<u8>>, text: &[u8]) -> Result<(), BaseMemory>
 ///
 /// # Errors
 ///
-/// `BaseMemory`: out of memory for it.
+/// `BaseMemory`: out of memory for the copy.
 fn copy_of(alloc: Global, text: &[u8]) -> Result<Vec<u8>, BaseMemory>
     ensures { IfOk result (λ copy. copy.items ≡ text.now) }
 {

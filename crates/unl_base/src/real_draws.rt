@@ -46,7 +46,7 @@ impl<C: Clock + Copy + Drop> RealDraws<C> {
     }
 }
 
-/// Reads the clock, in milliseconds since 1970. Returns `LAST_MOMENT` for a time past a `u64`.
+/// Reads the clock, in milliseconds since 1970. Returns `LAST_MOMENT` for a time that doesn't fit into a `u64`.
 fn moment_of<C: Clock + Copy + Drop>(clock: C) -> io::Result<u64> {
     let since = SystemTime::now(&clock)?
         .duration_since(SystemTime::UNIX_EPOCH)
