@@ -1,4 +1,4 @@
-//! Laws on the fields and properties that the pairs of a query set. Each law is the contract of a function that does
+//! Laws on the fields and properties set by the pairs of a query. Each law is the contract of a function that does
 //! nothing.
 ghost use Rattle.unl_context.specs.Laws.{LastFieldCounts, LastPropertyCounts, SetNamesRise};
 
