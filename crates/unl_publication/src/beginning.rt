@@ -10,7 +10,7 @@ use crate::writer::{Writer, fresh_seat};
 use std::alloc::{AllocError, Global};
 use std::sync::Wait;
 
-/// Creates a writer over two copies with equal meaning, and `readers` readers that know only the opening value. There
+/// Creates a writer over two copies with the same state, and `readers` readers that know only the opening value. There
 /// is room for `spare_readers` more readers. Each `Told` (a report of the writer for one reader) that has the list of
 /// published installs takes the room of one spare reader until a reader learns it or it is dropped.
 ///

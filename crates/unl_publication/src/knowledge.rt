@@ -12,7 +12,7 @@ pub struct Knowledge<S, I> {
     /// The installs, in order, of the list that was seen last or that the reader continues from.
     pub installs: LinkedList<I>,
     /// The values that the reader knew after 0, 1, 2, .. installs before it continued from a learned list. For these
-    /// numbers of installs they count instead of the values computed from `installs`. Empty if it never continued from
+    /// numbers of installs they replace the values computed from `installs`. Empty if it never continued from
     /// a learned list.
     pub before: LinkedList<Option<S>>,
     /// The number of installs that a reader saw at each of its looks, oldest first.

@@ -5,9 +5,9 @@ use atomic_table::{Join, Split};
 use crossbeam_utils::rule::{Outcome, Protocol};
 use std::marker::{Brand, PhantomData};
 
-/// The invariant of the publications: `Ruled`, or another protocol equivalent to it. The invariant is `IsKept`: there
-/// is one opening value and one list of installs, the value before each install allows it, and the writer and each
-/// reader know a prefix of that list.
+/// A protocol whose invariant is equivalent to `IsKept`, such as `Ruled`. `IsKept` says that there is one opening value
+/// and one list of installs, the value before each install allows it, and the writer and each reader know a prefix of
+/// that list.
 pub trait Rules<T: Counted<I>, I: Drop>: Protocol<T, Knowledge<T::State, I>> {
     ghost use Rattle.std.specs.Prelude.{◌≡◌, List};
     ghost use Rattle.unl_publication.specs.declared.knowledge.Knowledge.{Knowledge};

@@ -58,7 +58,7 @@ impl<T: Counted<I> + Drop, I: Drop, P: Rules<T, I>> Told<T, I, P> {
 impl<T: Counted<I> + Drop, I: Drop, P: Rules<T, I>> Writer<T, I, P> {
     ghost use Rattle.unl_publication.specs.Seen.{is_closed, reported_front, reported_list, written};
 
-    /// Creates a writer that knows the opening value, over two copies with equal meaning, with room for `readers`
+    /// Creates a writer that knows the opening value, over two copies with the same state, with room for `readers`
     /// readers.
     ///
     /// # Errors
@@ -124,8 +124,8 @@ impl<T: Counted<I> + Drop, I: Drop, P: Rules<T, I>> Writer<T, I, P> {
     ///
     /// # Errors
     ///
-    /// Fails if it runs out of memory, or if the install or its copy can't be absorbed. Nothing is published then. If
-    /// this happens after the install was logged, every later call fails too.
+    /// Fails if it runs out of memory, or if one of the two copies of the value can't absorb the install. Nothing is
+    /// published then. If this happens after the install was logged, every later call fails too.
     pub fn publish<W: Wait>(self, rt: &W, what: I) -> (Writer<T, I, P>, Result<u64, AllocError>)
         requires { MayPublish T.applied T.allows (written self) what }
         ensures published { MatchResult result.1
@@ -185,8 +185,8 @@ pub(crate) fn fresh_seat<T: Counted<I> + Drop, I: Drop, P: Rules<T, I>>(
     Ok(seat)
 }
 
-/// Makes a publication without installs. By it the writer's ghost record gets the name of the `atomic_table` and the
-/// opening value.
+/// Makes a publication without installs. It puts the name of the `atomic_table` and the opening value into the writer's
+/// ghost record.
 fn open_table<T: Counted<I> + Drop, I: Drop, P: Rules<T, I>, K: AtTable, W: Wait>(
     rt: &W,
     sides: Sides<T, I, Knowledge<T::State, I>, P>,
