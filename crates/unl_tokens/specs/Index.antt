@@ -8,7 +8,7 @@ use Rattle.std.specs.Str.{bytes_eq}
 use Rattle.std.specs.declared.cmp.Ordering.TheVariants.{Less}
 use Rattle.unl_tokens.specs.declared.token.Token.{Token}
 
--- the text of the token at a position, empty past the last
+-- the text of the token at a position, or the empty text past the end of the list
 abbrev pub text_at : List Token → ℕ → List ℕ
 text_at tokens place = option_map_or (λ t. t.text) (slice_get tokens place) []
 

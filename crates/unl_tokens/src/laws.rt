@@ -1,15 +1,15 @@
 //! Laws about repeated texts. Each law is the contract of a function that does nothing.
 ghost use Rattle.unl_tokens.specs.Laws.{DifferentAreKept, KnownOnce, LatestAreGathered, LatestAreRead};
 
-/// A book read from an answer has each text of the answer's entries once, in the position of its first entry and with the
-/// token of its last entry.
+/// A book read from a JSON value has one token for each text: the last token with that text in the value's list, in the
+/// position of the first.
 pub fn latest_are_kept()
     ensures gathered { LatestAreGathered }
     ensures read { LatestAreRead }
 {}
 
-/// The known tokens of a request are those of the texts asked for, each once, in the position where its text is first
-/// asked for.
+/// The known tokens of a request are the book's tokens for the requested texts, each once, in the order in which the texts
+/// first occur.
 pub fn known_once()
     ensures { KnownOnce }
 {}
