@@ -5,7 +5,7 @@ use Rattle.unl_http_api.specs.declared.first_item.FirstItem.{FirstItem}
 use Rattle.unl_http_api.specs.declared.first_item.FirstItem.TheVariants.{Request as Whole, More, Bad}
 use Rattle.unl_http_api.specs.Requests.{BeginsWith, IsUnfinished, IsBad}
 
--- The item is the first in the bytes `held`. A request: the first `len` bytes are one, and `close` says whether it ends the connection.
+-- The item is the first in the bytes `held`. `Whole`: the first `len` bytes are a request, and `close` is whether it ends the connection.
 -- `More`: the request is incomplete. `Bad`: the bytes are refused with this status, whatever follows them.
 abbrev pub IsFirstItem : List ℕ → FirstItem → Type 0
 IsFirstItem held (Whole len close) =

@@ -69,7 +69,7 @@ pub record CanBeRead
   pub body_fits : length body ≤ 1048576
   pub body_allowed : method ≡ Get → body ≡ []
 
--- what the server reads from such a request; it trims the white space around the token and the tag
+-- what the server reads from a request with these parts; it trims the white space around the token and the tag
 abbrev pub request_read : Method → List ℕ → Option (List ℕ) → Option (List ℕ) → List ℕ → Request
 request_read method target token tag body = record {
   method = method;
