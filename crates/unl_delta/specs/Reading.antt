@@ -86,8 +86,8 @@ abbrev pub at_place : ℕ → Reading Event → Result Event BadBatch
 at_place place (Ok event) = Ok event
 at_place place (Err e) = Err (BadEvent place)
 
--- checks the event at index `place`: only the first event can be a hydration, and its number is not below `before`, the number of the
--- event before it
+-- checks the event at index `place`: it is a hydration only if it is the first event, and its number is not below `before`, the number
+-- of the event before it
 unfoldable pub in_order : ℕ → ℕ → Event → Result Event BadBatch
 in_order place before event =
     if nat_lt 0 place && not (is_change event) then Err (HydrationNotFirst place)

@@ -68,7 +68,7 @@ pub record IsValidVersion (v : EnvVersion) : Type 0 where
   pub state : IsValidState v.state
   pub entries : AllByRecursion IsValidEntry v.entries
 
--- the place (the current version of one slot) has no version, or a valid version
+-- the place has no version, or a valid version
 abbrev pub IsValidPlace : Place → Type 0
 IsValidPlace place = IfSome place.version IsValidVersion
 
