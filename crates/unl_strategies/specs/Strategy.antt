@@ -1,4 +1,4 @@
--- When a strategy is active, after the activation strategies of the Unleash reference.
+-- When a strategy is active, following the activation strategies of the Unleash reference.
 use Rattle.std.specs.Prelude.{ℕ, List, [], ◌∷◌, Bool, true, false, ◌&&◌, Option, Some, None, codes, unwrap_or, if◌then◌else◌}
 use Rattle.std.specs.List.{list_all}
 use Rattle.std.specs.Option.{option_map_or, option_or}
