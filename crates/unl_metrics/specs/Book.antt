@@ -114,7 +114,7 @@ tallies_at key others = map (λ e. e.1) (where_key key_cmp (eq_by_cmp key_cmp ke
 abbrev pub and_more : {X : Type 0} → (X → X → X) → Option X → X → Option X
 and_more plus before x = Some (added plus before x)
 
--- The sum of two optional values. If one of them is missing, it is the other one.
+-- The sum of two optional values. If one of them is missing, the sum is the other one.
 abbrev pub sum_of_both : {X : Type 0} → (X → X → X) → Option X → Option X → Option X
 sum_of_both plus before None = before
 sum_of_both plus before (Some x) = and_more plus before x

@@ -111,8 +111,8 @@ impl MetricsBook {
 
     /// The bulk report of an environment, and the number of keys in it. `None` exactly if the environment has no key.
     ///
-    /// The report has the longest prefix of the environment's keys, in ascending order, whose text is at most 1,048,576
-    /// bytes. If all names and hours in the book are within the limits that a report is read with,
+    /// The report has the longest prefix of the environment's keys, in ascending order, for which the report's text is at most
+    /// 1,048,576 bytes. If all names and hours in the book are within the limits for reading a report,
     /// [`Report::read_bulk`] reads the text back as the counts of these keys.
     ///
     /// # Errors

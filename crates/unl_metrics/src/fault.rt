@@ -12,11 +12,11 @@ pub enum BadReport {
     /// Not JSON, or not an object.
     #[error("the report is not JSON")]
     NotJson,
-    /// The key is required and is absent or null, or its value is a name and empty.
+    /// The key is required and is absent or null, or its value must be a name but is empty.
     #[error("a required key is missing")]
     Missing(Field),
-    /// The value at the key is of the wrong kind. Includes a count that is no whole number from 0 on, and a text that
-    /// is no instant in the years 1970 to 9999.
+    /// The value at the key is of the wrong kind. Includes a count that is not a whole number from 0 to 2^64 - 1,
+    /// and a text that is not an instant in the years 1970 to 9999.
     #[error("a value is of the wrong kind")]
     WrongKind(Field),
     /// The length or count at the key is above its limit. Carries that length or count.

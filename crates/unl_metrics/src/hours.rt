@@ -38,7 +38,7 @@ impl Kind for Hour {
     }
 }
 
-/// The hour of the instant in a text. `None` if the text is no instant, or its instant is not in the years 1970 to
+/// The hour of the instant in a text. `None` if the text is not an instant, or its instant is not in the years 1970 to
 /// 9999.
 fn hour_in(alloc: Global, text: &str) -> Result<Option<u32>, Memory>
     ensures hour { IfOk result (λ hour. hour ≡ option_and_then hour_of (instant_of text.now)) }

@@ -37,8 +37,8 @@ pub fn acknowledged_keys_are_dropped()
         → counted_in other (acknowledge environment count book) ≡ counted_in other book }
 {}
 
-/// Nothing is sent exactly if the environment has no key. Otherwise the longest prefix of its keys is sent whose text
-/// is at most 1,048,576 bytes.
+/// Nothing is sent exactly if the environment has no key. Otherwise the longest prefix of its keys for which
+/// the report's text is at most 1,048,576 bytes is sent.
 pub fn the_longest_prefix_is_sent()
     ensures none { (environment : List ℕ) (book : Book) → (bulk environment book ≡ None) ↔ (counted_in environment book ≡ []) }
     ensures fits { (book : Book) → bulk_length (take (room_for book) book) ≤ longest_bulk }
