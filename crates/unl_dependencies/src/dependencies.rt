@@ -56,7 +56,7 @@ pub fn is_met<F: Features>(
 }
 
 /// Whether a parent satisfies a dependency. The parent is within its limits. A parent that has dependencies of its own
-/// satisfies none, so a parent's parents are never considered. The only error is out of memory.
+/// satisfies no dependency, so a parent's parents are never considered. The only error is out of memory.
 #[tactic(auto, unfolding(crate::specs::Evaluation::is_met_by))]
 pub fn is_met_by<F: Features>(
     alloc: Global,

@@ -34,9 +34,8 @@ pub fn evaluate<F: Features>(
     }
 }
 
-/// Evaluates a feature in a state whose documents are within their limits. Apart from the feature itself, the result depends
-/// only on its parents in the state and on the segments that its strategies and theirs refer to. The only error is out of
-/// memory.
+/// Evaluates a feature in a state whose documents are within their limits. Of the state, the result depends only on the
+/// feature's parents and on the segments that its strategies and theirs refer to. The only error is out of memory.
 pub fn evaluate_feature<F: Features>(
     alloc: Global,
     features: &F,
