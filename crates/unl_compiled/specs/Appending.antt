@@ -1,4 +1,4 @@
--- The laws of the two toggle sinks, a list of JSON values and a JSON writer: appending nothing, and appending twice.
+-- The laws of the two toggle sinks (a list of JSON values, and a JSON writer): appending nothing, and appending twice.
 use Rattle.std.specs.Prelude.{◌≡◌, List, [], ◌++◌}
 use Rattle.std.proofs.Common.{refl, sym, ap, ◌∙◌, append_assoc}
 use Rattle.std.proofs.lemmas.List.{append-nil}

@@ -39,12 +39,12 @@ shifted less more place = place - less + more
 abbrev pub IsParted : ℕ → List ℕ → Type 0
 IsParted place places = IsPartitionedBy (λ n. nat_lt n place) places
 
--- The number of positions that are less than `place`. The positions ascend.
+-- The length of the longest prefix of positions that are less than `place`.
 abbrev pub count_below : ℕ → List ℕ → ℕ
 count_below place places = prefix_len (λ n. nat_lt n place) places
 
--- The positions of a project's features after a change: first the positions before the change, then the position of the
--- inserted feature if it has this project, then the later positions, shifted and without that of the removed feature.
+-- The positions of a project's features after a change: first the positions less than `c.place`, then the position of the
+-- inserted feature if it has this project, then the other positions, shifted and without that of the removed feature.
 abbrev pub moved : Change → List ℕ → List ℕ → List ℕ
 moved c project places =
     take (count_below c.place places) places
@@ -52,7 +52,7 @@ moved c project places =
     ++ map (shifted (count_of c.removed) (count_of c.inserted))
     (drop (count_if (is_of project c.removed)) (drop (count_below c.place places) places)))
 
--- The entry `new` has the project of `e`, and its positions after a change.
+-- The entry `new` has the project of `e` and, if `IsParted` holds for the positions of `e`, these positions after the change.
 pub record IsMoved (c : Change) (e new : ProjectPlaces) : Type 0 where
   pub project : new.project ≡ e.project
   pub places : IsParted c.place e.places → new.places ≡ moved c e.project e.places

@@ -51,8 +51,8 @@ written_toggles toggles = object (
 unfoldable pub toggles_data : State → Bool → Fields → Moment → Data
 toggles_data state all context moment = written_toggles (filter_map (toggle_of state all context moment) state.features)
 
--- A query for the toggles of a state's visible features, that is of the features whose project is in `projects`: all of these
--- toggles, or only those that are on.
+-- A query for the toggles of a state's visible features (those whose project is in `projects`): all of these toggles, or only
+-- those that are on.
 pub record ToggleQuery : Type 0 where
   pub state : State
   pub projects : Projects

@@ -34,7 +34,7 @@ pub(crate) trait ToggleSink {
 }
 
 /// Appends the toggles that a query asks for, in the order of their names. If the query has exactly one project, the
-/// project index has the positions of its features; otherwise each feature is checked.
+/// positions of its features are taken from the project index; otherwise each feature is checked.
 pub(crate) fn collect<S: ToggleSink>(
     sink: &mut S,
     alloc: Global,

@@ -52,8 +52,8 @@ pub(crate) fn all_places(
     Shared::new(alloc, index_of(alloc, parts.chunks())?)
 }
 
-/// As `places_after`, for one event. If it puts or removes a feature, the positions after that feature shift by at most
-/// one; otherwise the index is rebuilt.
+/// As `places_after`, for one event. If it applies and puts or removes a feature, the positions after that feature shift
+/// by at most one; otherwise the index is rebuilt.
 fn places_after_one(
     alloc: Global,
     number: u64,

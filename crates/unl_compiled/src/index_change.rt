@@ -169,7 +169,7 @@ fn push_if(list: &mut Vec<usize>, so: bool, place: usize) -> Result<(), Memory>
     Ok(())
 }
 
-/// Each position after `less` features before it are removed and `more` features are inserted before it.
+/// Shifts each position: `less` features before it are removed, and then `more` features are inserted before it.
 fn all_shifted(
     alloc: Global,
     places: &[usize],
@@ -192,8 +192,8 @@ fn shift_all(places: &mut [usize], less: usize, more: usize) -> Result<(), Memor
     Ok(())
 }
 
-/// The position after `less` features before it are removed and `more` features are inserted before it. An overflow is
-/// reported as out of memory.
+/// Shifts a position: `less` features before it are removed, and then `more` features are inserted before it. An overflow
+/// is reported as out of memory.
 fn shifted(place: usize, less: usize, more: usize) -> Result<usize, Memory>
     ensures { IfOk result (λ n. n ≡ shifted less more place) }
 {
