@@ -10,7 +10,7 @@ use Rattle.unl_http_api.specs.Route.{if_utf8}
 abbrev pub first_with_segments : Parts
 first_with_segments = (4, 2, 0, [], [])
 
--- The version whose text the bytes are. `None` if they are not the text of a full version of Semantic Versioning 2.0.0.
+-- The version parsed from the bytes. `None` if they are not the text of a full version of Semantic Versioning 2.0.0.
 abbrev pub version_in : List ℕ → Option Parts
 version_in bytes = option_and_then version_of (if_utf8 bytes)
 

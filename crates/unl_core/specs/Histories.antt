@@ -27,7 +27,7 @@ AreLines histories = (environment : List ℕ) → IsLine (histories.line environ
 abbrev pub RepresentedAt : Histories → List ℕ → Option EnvVersion → Type 0
 RepresentedAt histories environment version = IfSome version (RepresentsLine (histories.line environment) (histories.sees environment))
 
--- The version of each slot is such a revision.
+-- `RepresentedAt` holds for the environment and the version of each slot.
 abbrev pub AllRepresented : Histories → List Slot → Type 0
 AllRepresented histories slots = AllByRecursion (λ slot. RepresentedAt histories slot.environment slot.snapshot) slots
 

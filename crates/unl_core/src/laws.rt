@@ -17,7 +17,7 @@ pub fn tag_is_of_its_number()
     ensures { TagIsOfItsNumber }
 {}
 
-/// From the tag that is written for a number below 2^64, that number is read.
+/// A number below 2^64 is read back from the tag that is written for it.
 pub fn tag_is_read()
     ensures { TagIsRead }
 {}

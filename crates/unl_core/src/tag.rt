@@ -49,7 +49,7 @@ fn tag_prefix(alloc: Global, board: &Board, place: u32, epoch: u64) -> Result<St
     format!(in alloc; "\"{boot:016x}-{generation}-{place}-{epoch}")
 }
 
-/// The epoch followed by a point, or an empty text if the epoch is 0.
+/// The epoch followed by a dot, or an empty text if the epoch is 0.
 fn epoch_mark(alloc: Global, epoch: u64) -> Result<String, AllocError>
     ensures { IfOk result (λ s. string_bytes s ≡ with_epoch epoch []) }
 {
