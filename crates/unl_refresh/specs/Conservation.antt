@@ -8,7 +8,7 @@ use Rattle.unl_refresh.specs.Handovers.{empty_handover, weigh}
 use Rattle.unl_refresh.specs.declared.handover.Handover.{Handover}
 
 -- `items` are the books that wait in the queue, and `views` are the views of all passes. `whole`: together the passes have all 2^64 parts.
--- `conserved`: the books that were put are those that were taken and those that wait, each as many times. This is stated with sums: they
+-- `conserved`: the books that were put are those that were taken and those that wait, each equally often. This is stated with sums: they
 -- are equal for any weight of each book. `idle`: a pass with no part has put and taken nothing.
 pub record IsConserved (items : List Book) (views : List Handover) : Type 0 where
   pub whole : weigh (λ v. v.parts) views ≡ 18446744073709551616

@@ -33,7 +33,7 @@ OutcomeFromReply None reading outcome = outcome ≡ Nothing
 OutcomeFromReply (Some (report, count)) reading outcome = outcome ≡ sent_by count reading
 
 -- A reply is read from the bytes to come (from some bytes, if they are not observable).
--- It determines the outcome of `count` keys.
+-- It determines the outcome of a report of `count` keys.
 pub record SendsKeys (count : ℕ) (coming : Option (List ℕ)) (outcome : MetricsOutcome) : Type 0 where
   pub reading : Result Got BadReply
   pub is_read : IsParsedFrom coming reading

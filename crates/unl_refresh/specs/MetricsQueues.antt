@@ -24,8 +24,8 @@ pub record Intake : Type 0 where
   pub taken : List Book
   pub held : Option Book
 
--- A receiver: its queue; how many of the queue's 2^64 parts it has (each sender has one); the books handed over by the senders that
--- it took back; and what it has taken in.
+-- A receiver: its queue; how many of the queue's 2^64 parts it has (each sender has one); the books handed over by those senders
+-- that it took back; and what it has taken in.
 pub record Receiving : Type 0 where
   pub queue : TableId
   pub parts : ℕ

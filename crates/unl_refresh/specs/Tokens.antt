@@ -1,4 +1,4 @@
--- Refreshing the book of tokens from a peer, the server upstream: the request that is sent, and the effect of the reply. `texts` are the
+-- Refreshing the book of tokens from the upstream server: the request that is sent, and the effect of the reply. `texts` are the
 -- texts of the tokens that are asked for.
 use Rattle.std.specs.Prelude.{◌≡◌, ◌==◌, ℕ, not, List, Option, Some, None, Result, Ok, Err, codes, if◌then◌else◌}
 use Rattle.std.specs.Prelude.{IfOk, OnErr, OnOk, option_map}

@@ -114,7 +114,7 @@ abbrev pub metrics_after : List ℕ → ℕ → ReplyOrFault → Book → Book
 metrics_after environment count None book = book
 metrics_after environment count (Some reading) book = book_after environment (sent_by count reading) book
 
--- A report of `count` keys was sent to the slot's server, with its token.
+-- A report of `count` keys was sent to the slot's server, with its token, or the peer failed.
 pub record SendsReport (report : Data) (count : ℕ) (parameters : SlotParameters) (before after : PollState) : Type 0 where
   pub received : ReplyOrFault
   pub meets : Meets received (metrics_request parameters.host parameters.token report) before.peer after.peer

@@ -42,8 +42,8 @@ fn passes_are_send()
     send_of::<MetricsPass>()
 }
 
-/// The ends of a metrics queue can be sent to another thread. A caller that sends one calls this first, to have the
-/// fact. Does nothing at run time.
+/// The ends of a metrics queue can be sent to another thread. A caller calls this before it sends an end, so that its
+/// proof has this fact. Does nothing at run time.
 pub fn metrics_ends_are_send()
     ensures sender { (lifetime : NamedLft) → IsSend (SenderType.the_row lifetime) }
     ensures receiver { (lifetime : NamedLft) → IsSend (ReceiverType.the_row lifetime) }

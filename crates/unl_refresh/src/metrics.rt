@@ -55,7 +55,7 @@ pub fn send_metrics<P: Peer>(
     // If there is nothing to send, the peer is unchanged.
     ensures silent { bulk_of environment.now book.old ≡ None → peer.new ≡ peer.old }
 
-    // `PeerFault` is returned only if the peer's fault count rose, and otherwise it didn't change.
+    // If `PeerFault` is returned, the peer's fault count rose; otherwise the count didn't change.
     ensures causes { HasPeerCause result (P.Source.faults peer.old) (P.Source.faults peer.new) }
 {
     send(alloc, book, environment, token, host, peer)

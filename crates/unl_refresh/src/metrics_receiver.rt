@@ -1,4 +1,4 @@
-//! The receiving end of a metrics queue: the poller takes the books here that worker threads put into the queue.
+//! The receiving end of a metrics queue, where the poller takes the books that worker threads put into the queue.
 //!
 //! The right to use a queue is divided into 2^64 parts. The receiver starts with all of them, and each sender gets one.
 //! A pass holds parts of a queue, and in contracts also the books that were put and taken with it.
@@ -139,7 +139,7 @@ impl<'a> MetricsReceiver<'a> {
     }
 }
 
-/// Merges a book into another. Returns it if it wouldn't fit or memory ran out.
+/// Merges `other` into `book`. Returns `other` if it doesn't fit or memory ran out.
 fn merge_or_return(alloc: Global, book: &mut MetricsBook, other: MetricsBook) -> Option<MetricsBook>
     ensures { MatchOption result (book.new ≡ sum_of book.old other) (λ back. (back ≡ other) × (book.new ≡ book.old)) }
 {

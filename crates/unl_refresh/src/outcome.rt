@@ -30,7 +30,7 @@ pub enum Outcome {
     BadAnswer(Bad),
 }
 
-/// Why a reply can't be parsed. None of these is ever out of memory, which is an error of the call.
+/// Why a reply can't be parsed. The inner fault is never `Memory`, which is an error of the call.
 #[derive(Debug, Drop, PartialEq, Error)]
 pub enum Bad {
     /// The bytes are not a valid HTTP reply.
@@ -59,7 +59,7 @@ pub enum MetricsOutcome {
     Sent(usize),
     /// The server answered with a status other than 200 and 202.
     Refused(u16),
-    /// The bytes are not a valid HTTP reply. This is never out of memory.
+    /// The bytes are not a valid HTTP reply. The inner fault is never `Memory`.
     BadAnswer(BadReply),
 }
 

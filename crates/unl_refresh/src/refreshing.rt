@@ -61,7 +61,7 @@ pub fn refresh_once<I: Installer, P: Peer>(
         (refresh_state (I.installed to.new) ask.new
         (peer_view (P.state peer.new) (P.Source.faults peer.new))) }
 
-    // `PeerFault` is returned only if the peer's fault count rose, and otherwise it didn't change.
+    // If `PeerFault` is returned, the peer's fault count rose; otherwise the count didn't change.
     ensures causes { HasPeerCause result (P.Source.faults peer.old) (P.Source.faults peer.new) }
 {
     refresh(alloc, to, slot, ask, peer)

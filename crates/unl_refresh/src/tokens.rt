@@ -55,7 +55,7 @@ pub fn refresh_tokens<I: Installer, P: Peer>(
     ensures one_reply { ¬ (Rose (P.Source.faults peer.old) (P.Source.faults peer.new)) → result ≢ Err RefreshFault.Memory
         → (P.state peer.new).replies ≡ option_map (λ list. drop 1 list) (P.state peer.old).replies }
 
-    // `PeerFault` is returned only if the peer's fault count rose, and otherwise it didn't change.
+    // If `PeerFault` is returned, the peer's fault count rose; otherwise the count didn't change.
     ensures causes { HasPeerCause result (P.Source.faults peer.old) (P.Source.faults peer.new) }
 {
     refresh(alloc, to, texts, host, peer)
