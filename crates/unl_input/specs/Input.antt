@@ -18,7 +18,7 @@ pub record IsTooLongInput (left : Option (List ℕ)) (bytes : List ℕ) (left_af
   pub took : Takes left bytes left_after
   pub long : longest < length bytes
 
--- The whole input was read, or more bytes than an input may have.
+-- The whole input was read, or more bytes than an input may have. If the read failed or memory ran out, nothing is claimed.
 abbrev pub HasRead : Result (List ℕ) InputFault → Option (List ℕ) → Option (List ℕ) → Type 0
 HasRead (Ok bytes) left left_after = IsWholeInput left bytes left_after × (length bytes ≤ longest)
 HasRead (Err TooLarge) left left_after = (bytes : List ℕ) × IsTooLongInput left bytes left_after

@@ -8,7 +8,7 @@ use Rattle.unl_input.specs.declared.reader.ReadFault.{ReadFault}
 use Rattle.unl_input.specs.declared.reader.ReadFault.TheVariants.{Failed, TooLong, Memory}
 use Rattle.unl_input.specs.Lines.{has_end}
 
--- A call consumed the bytes `out`: it appended the bytes `read` from the source to the buffer, and removed `out` from the buffer's front.
+-- A call consumed the bytes `out`: it appended the bytes `read` from the source to the buffer, and removed `out` from the buffer's start.
 pub record Gets
     (held : List ℕ) (left : Option (List ℕ)) (out held_after : List ℕ) (left_after : Option (List ℕ)) : Type 0 where
   pub read : List ℕ

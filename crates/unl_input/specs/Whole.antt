@@ -22,7 +22,7 @@ pub record AnswersRead {D : Type 0} (taking : Taking D) (desk : D) (left left_af
   pub took : Takes left read left_after
   pub answered : IsAnswered (ended_lines_outcome taking desk read) old new
 
--- some bytes were read, and `P` holds for these and any bytes that may follow; none follow if the source has ended
+-- some bytes were read, and `P` holds for these together with any bytes that may follow; none follow if the source has ended
 pub record HoldsOfRead (left left_after : Option (List ℕ)) (P : List ℕ → Type 0) : Type 0 where
   pub read : List ℕ
   pub took : Takes left read left_after

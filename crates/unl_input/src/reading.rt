@@ -53,8 +53,8 @@ impl From<Memory> for InputFault {
 /// Reads all remaining bytes of the source, if there are at most 16,777,216.
 ///
 /// # Errors
-/// `TooLarge` if there are more bytes, not all of which are read; `ReadFault` if the source failed; `Memory` if memory ran
-/// out.
+/// `TooLarge` if there are more bytes, some of which may be left unread; `ReadFault` if the source failed; `Memory` if
+/// memory ran out.
 pub fn read_input<S: Source>(alloc: Global, source: &mut S) -> Result<List<u8>, InputFault>
     ensures read { HasRead result (S.left source.old) (S.left source.new) }
     ensures failed { IsErrOf result InputFault.ReadFault → Rose (S.faults source.old) (S.faults source.new) }
