@@ -11,8 +11,8 @@ use Rattle.unl_net.specs.declared.phase.Facts.{Facts}
 abbrev pub unread : ReceiveBuffer → List ℕ
 unread buffer = drop buffer.taken buffer.bytes.items
 
--- How many received bytes a link may read. The bytes begin with a whole request: its length. With an unfinished request: 0. With bytes
--- that are refused: all of them.
+-- How many received bytes a link may read: if they begin with a whole request, its length; if they begin with an unfinished request, 0;
+-- if they are refused, all of them.
 abbrev pub opened_len : Frame → List ℕ → ℕ
 opened_len (Whole count) bytes = count
 opened_len More bytes = 0
@@ -34,7 +34,7 @@ coming buffer remaining = prepend_known (unread buffer) remaining
 abbrev pub outgoing : Option (List ℕ) → SendBuffer → Option (List ℕ)
 outgoing contents buffer = append_known contents (unsent buffer)
 
--- The effect of a read into the buffer `room`. If it returns `n`, the first `n` bytes of `room` were removed from the front of the bytes
+-- The effect of a read into the buffer `room`. If it returns `n`, the first `n` bytes of `room` were removed from the start of the bytes
 -- to come. If it fails, no bytes were removed. `old` and `new` are the bytes to come before and after the read.
 abbrev pub ConsumesReturned : {E : Type 0} → Option (List ℕ) → Option (List ℕ) → Result ℕ E → List ℕ → Type 0
 ConsumesReturned old new r room = MatchResult r (λ n. Consumes old new (take n room)) (λ _. Keeps old new)

@@ -29,7 +29,7 @@ waits Sending = true
 waits Draining = true
 waits Over = false
 
--- the maximum number of seconds that a connection may stay in this phase
+-- the maximum number of seconds that a connection may stay in this phase; 0 if it does not wait for its client
 abbrev pub limit_of : Phase → ℕ
 limit_of Idle = 75
 limit_of Receiving = 30

@@ -30,7 +30,7 @@ digits_of first second third =
     then Some ((first - 48) * 100 + (second - 48) * 10 + (third - 48))
     else None
 
--- the status of a reply that begins with these bytes: the three digits after the version and one more byte
+-- the status of a reply that begins with these bytes: the three digits that follow the version and any one byte
 abbrev pub status_of : List ℕ → Option ℕ
 status_of reply =
     if nat_le 12 (length reply) && starts_with nat_eq reply (codes "HTTP/1.")

@@ -38,7 +38,7 @@ pub(crate) struct Connection<S: Read + Write + OpenStream + Drop> {
     pub ended: bool,
     /// Whether the connection will be closed once all bytes are sent.
     pub closing: bool,
-    /// When its current phase began.
+    /// When its current phase began or when bytes were last sent, whichever is later.
     pub since: Option<Instant>,
     /// Whether this side was shut down: nothing more is sent.
     is_shut: bool,
@@ -144,8 +144,8 @@ impl<S: Read + Write + OpenStream + Drop> Connection<S> {
         phase_of(self.facts())
     }
 
-    /// Whether the connection has waited too long: at `now` it has been in its phase for at least the phase's time
-    /// limit.
+    /// Whether the connection has waited too long: the time from `since` to `now` is at least the time limit of its
+    /// phase.
     pub fn is_late(&self, now: Option<Instant>) -> bool
         ensures { result ≡ nat_le
             (limit_of (phase_of (facts_of self.now.received self.now.to_send self.now.closing self.now.ended)))
@@ -431,7 +431,7 @@ impl<S: Read + Write + OpenStream + Drop> Connection<S> {
     }
 }
 
-/// Whether a call of a stream failed because nothing came in time.
+/// Whether a call of a stream failed because it would block or timed out.
 fn is_wait(fault: &io::Error) -> bool {
     let kind = fault.kind();
     kind == ErrorKind::WouldBlock || kind == ErrorKind::TimedOut

@@ -150,7 +150,7 @@ impl EachMinute {
         EachMinute { last: None }
     }
 
-    /// Whether a line may be logged, which then counts as logged.
+    /// Whether a line may be logged now. If so, it counts as logged.
     fn is_due(&mut self, now: Option<Instant>) -> bool {
         let is_due = self.last.is_none() || seconds_between(self.last, now) >= LOG_INTERVAL;
         if is_due {

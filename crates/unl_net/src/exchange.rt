@@ -8,7 +8,7 @@ use std::time::Instant;
 /// How long an exchange may take, in seconds. How long the system takes to look up a name is not bounded.
 const MOST_SECONDS: u64 = 30;
 
-/// For how many seconds a server is not asked after it used up its time.
+/// For how many seconds a server that used up its time is not asked again.
 const REST_SECONDS: u64 = 5;
 
 /// When the latest exchange began, and when a server last used up the time of an exchange. If the clock can't be read,

@@ -15,7 +15,7 @@ use std::sync::{Arc, Wait};
 use std::time::Clock;
 use unl_base::{Failed, Link, Sink, Source};
 
-/// A link over a connection. It reads whole requests only. The link ends once it has replied to these and no further
+/// A link over a connection. It usually reads whole requests only. The link ends once it has replied to these and no further
 /// whole request was received. Its connection then goes back to the door, which can hand it out again as another link.
 #[derive(Drop)]
 pub struct RealLink<S: Read + Write + OpenStream + Drop, C: Clock + Wait + Drop> {
@@ -49,7 +49,7 @@ impl<S: Read + Write + OpenStream + Drop, C: Clock + Wait + Drop> Source for Rea
 
     ghost other_parts = { λ _. no_other_parts };
 
-    /// Reads bytes of whole requests. Returns 0 once the link has ended. On an error the fault count is incremented.
+    /// Reads bytes of requests. Returns 0 once the link has ended. On an error the fault count is incremented.
     fn read(&mut self, room: &mut [u8]) -> Result<usize, Failed>
         requires { 0 < length room.old }
         ensures fits { IfOk result (λ n. n ≤ length room.new) }

@@ -308,7 +308,7 @@ fn take_in_counted<N: Net + Clock + Eprint + Wait + Copy + Drop>(
     reactor.take_in(&net, connection);
 }
 
-/// Notes that no more connections are accepted, if as many were as the bound allows.
+/// Notes that no more connections are accepted, if the bound is reached.
 #[tactic(auto, using(crate::proofs::Accounting::same))]
 fn note_if_accepted_all<S: Read + Write + OpenStream + AsRawFd + Drop>(
     reactor: &mut Reactor<S>,

@@ -52,7 +52,7 @@ impl<A: ToSocketAddrs + Display> PeerLog<A> {
     }
 
     /// Notes that a piece of a request is written. If the last reply to this kind of request was a feed, the new
-    /// request shows whether this program accepted the feed: it then has the feed's tag. Logs that if it has changed.
+    /// request shows whether this program accepted the feed: it then has the feed's tag. Logs the feed's status, if it has changed.
     pub fn note_written<E: Eprint>(&mut self, to: &E, piece: &[u8]) {
         let status = self.statuses.note_written(piece);
         self.log_status(to, status);

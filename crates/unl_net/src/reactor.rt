@@ -54,7 +54,7 @@ pub(crate) struct Reactor<S: Read + Write + OpenStream + AsRawFd + Drop> {
     pub(crate) swept: Option<Instant>,
     /// The number of received bytes in the buffers of all connections that wait.
     pub(crate) received: u64,
-    /// The maximum number of connections, including those of links. It is exceeded only if links hold all of them.
+    /// The maximum number of connections, including those of links, plus 1 for the door. It is exceeded only if links hold all connections.
     most: usize,
     /// How many connections have ended here. It stops at 2^64 - 1.
     pub(crate) ended: u64,
@@ -74,7 +74,7 @@ pub(crate) struct Reactor<S: Read + Write + OpenStream + AsRawFd + Drop> {
 
 impl<S: Read + Write + OpenStream + AsRawFd + Drop> Reactor<S> {
     /// Returns a reactor for a listener, without connections. `most` is the maximum number of connections, including
-    /// those of links: once it is reached, a connection that waits is closed before another is accepted.
+    /// those of links, plus 1 for the door: once it is reached, a connection that waits is closed before another is accepted.
     ///
     /// # Errors
     /// The error of the system, or out of memory.
@@ -158,7 +158,7 @@ impl<S: Read + Write + OpenStream + AsRawFd + Drop> Reactor<S> {
         self.close_oldest()
     }
 
-    /// How many connections there are, including those of links, and 1 for the door.
+    /// How many connections there are, including those of links, plus 1 for the door.
     fn live(&self) -> usize {
         self.waiting
             .len()
@@ -344,7 +344,7 @@ impl<S: Read + Write + OpenStream + AsRawFd + Drop> Reactor<S> {
         self.bound_received()
     }
 
-    /// Registers a connection that waits for events. If that fails, which it does only out of memory, the connection is cut off.
+    /// Registers a connection that waits for events. If that fails, which happens only if memory runs out, the connection is cut off.
     #[tactic(auto, using(crate::proofs::Accounting::same))]
     fn register(&mut self, key: usize, fd: RawFd, interest: Interest)
         ensures accounts { Accounts 0 (slab_len self.old.waiting + deque_len self.old.ready) self.old.ended

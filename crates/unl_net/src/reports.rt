@@ -13,7 +13,7 @@ pub(crate) struct Reports {
     errors: EachMinute,
     /// How many answers had a status of 500 or more since that was last logged.
     server_errors: u64,
-    /// How many links were handed out since the door last looked for events.
+    /// How many links were handed out since the door last waited for events.
     pub in_a_row: u64,
     /// How many connections were accepted, or returned by links. It never falls, and stops at 2^64 - 1.
     arrived: u64,

@@ -128,7 +128,7 @@ fn line_of<'a>(request: &'a [u8], name: &[u8]) -> &'a [u8] {
     b""
 }
 
-/// The key of a kind of request, never 0: the FNV-1a hash of its logged text and its line with the token.
+/// The key of a kind of request: the FNV-1a hash of its logged text and its line with the token, with the lowest bit set, so never 0.
 fn key_of(text: &[u8], line: &[u8]) -> u64 {
     mixed(mixed(0xcbf2_9ce4_8422_2325, text), line) | 1
 }

@@ -41,8 +41,8 @@ enum LinkStage {
     Failed,
 }
 
-/// A connection while a link serves it. The link reads whole requests only. It ends once they are answered and no
-/// further one is there in time.
+/// A connection while a link serves it. The link reads whole requests only, except at the stage `Open`. It ends once
+/// they are answered and no further one was received in time.
 pub(crate) struct ServedConnection<S: Read + Write + OpenStream + Drop, C: Clock + Wait + Drop> {
     connection: Connection<S>,
     shared: Arc<SharedWithLinks<S>>,
@@ -313,7 +313,8 @@ impl<S: Read + Write + OpenStream + Drop, C: Clock + Wait + Drop> ServedConnecti
         }
     }
 
-    /// Keeps the rest of a piece, whose first `sent` bytes are sent, to be sent later.
+    /// Keeps the rest of a piece, whose first `sent` bytes are sent, to be sent later. If the rest can't be kept and `sent` is 0, waits for
+    /// the stream to take some bytes of the piece.
     #[tactic(auto, using(crate::proofs::Moving::none_written, crate::proofs::Moving::held_behind))]
     fn hold(&mut self, piece: &[u8], sent: usize) -> io::Result<usize>
         requires { sent ≤ length piece.now }

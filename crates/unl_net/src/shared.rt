@@ -27,9 +27,9 @@ pub(crate) struct SharedWithLinks<S: Read + Write + OpenStream + Drop> {
     keeps_answers: AtomicBool,
     /// How many bytes of answers are kept to be sent later.
     unsent: AtomicU64,
-    /// How many answers had a status of 500 or more.
+    /// How many answers had a status of 500 or more since the last call of `take_server_errors`.
     server_errors: AtomicU64,
-    /// How many connections were closed because an allocation failed when a link returned them.
+    /// How many connections were closed because an allocation failed when a link returned them, since the last call of `take_lost`.
     lost: AtomicU64,
     /// How many worker threads serve links at the same time, or 0 if the thread that accepts serves them.
     pub workers: u32,
