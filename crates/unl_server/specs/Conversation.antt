@@ -80,7 +80,7 @@ pub record CutInRefusal
   pub answered : AreAnswered Step 0 before requests text after
   pub sends : SendsPrefix sent (text ++ refusal_text status) sent_after
 
--- a request begins the bytes, and its reply was not sent in full
+-- the bytes begin with a request, and its reply was not sent in full
 pub record IsUnreplied
     {S : Type 0} (Step : S → Request → Reply → S → Type 0) (RunsOut : S → Request → S → Type 0) (bytes : List ℕ)
     (before after : S) : Type 0 where

@@ -36,7 +36,7 @@ pub record ConnectionState (S : Type 0) : Type 0 where
   pub sent : Option (List ℕ)
 
 -- A request was read, and its reply was sent, in full or in part as `Sent` says. `close` says whether the request closes the connection,
--- and `last` whether it is the last one that the connection may serve. In either case the reply closes the connection.
+-- and `last` whether it is the last one that the connection may serve. If either is true, the reply closes the connection.
 pub record Exchanges
     {S : Type 0} (Sent : Option (List ℕ) → List ℕ → Option (List ℕ) → Type 0)
     (Step : S → Request → Reply → S → Type 0) (last close : Bool) (old new : ConnectionState S) : Type 0 where

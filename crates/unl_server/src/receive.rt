@@ -48,7 +48,7 @@ pub(crate) fn receive<L: Link>(
     }
 }
 
-/// Takes the next request. If it is incomplete, reads more bytes and returns `None`.
+/// Takes the next request. If it is incomplete, reads more bytes, and returns `None` if this succeeds.
 fn turn<L: Link>(
     alloc: Global,
     reader: &mut Reader,

@@ -19,7 +19,7 @@ pub trait RequestHandler {
     /// The state of the handler, with everything that it records and counts. Each request may change it.
     type State;
 
-    /// The precondition of `answer`: the state and the number of requests answered before on the connection.
+    /// The precondition of `answer`, on the number of requests answered before on the connection, and on the state.
     ghost fits: { ℕ → Self.State → Type 0 };
 
     /// The relation between the states before and after any number of calls. It includes at least that the state still

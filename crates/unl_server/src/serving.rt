@@ -13,8 +13,8 @@ use unl_base::{Draws, Link};
 use unl_documents::{List, Memory};
 use unl_http_api::{End, Reader, Reply, Request, WriteRefusal, write_500, write_reply};
 
-/// Serves one request. Returns `None` if it was answered and the connection stays open, otherwise why the connection
-/// ended. `last`: the reply closes the connection, since its limit of requests is reached.
+/// Serves one request. Returns `None` if the whole reply was sent and the request did not ask to close the connection,
+/// otherwise why the connection ended. `last`: the reply closes the connection, since its limit of requests is reached.
 pub(crate) fn serve_request<A: RequestHandler, L: Link, R: Draws>(
     alloc: Global,
     reader: &mut Reader,
@@ -65,7 +65,7 @@ pub(crate) fn serve_request<A: RequestHandler, L: Link, R: Draws>(
     }
 }
 
-/// `End::Asked` if the request asked to close the connection (`close`), otherwise `None`: the connection stays open.
+/// `End::Asked` if the request asked to close the connection (`close`), otherwise `None`.
 fn asked(close: bool) -> Option<End>
     ensures { result ≡ (if close then Some End.Asked else None) }
 {
