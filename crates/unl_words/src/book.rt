@@ -13,7 +13,7 @@ use unl_tokens::{BadBook, Book};
 
 /// Builds the token book (the list of known tokens) from the client and frontend tokens in the arguments of `upstream`.
 /// Each token has the projects that its text names. The book is read from the response that a token server would give
-/// for these texts. It is empty if that can't be read, which happens only for texts that the arguments don't allow.
+/// for these texts. It is empty if the response can't be read, which happens only for texts that the arguments don't allow.
 ///
 /// # Errors
 /// The only error is out of memory.

@@ -44,7 +44,7 @@ fn check<'a>(alloc: Global) -> Result<Command<'a>, AllocError>
     with_options(alloc, Command::new(alloc, "check"), &["now", "word"], false)
 }
 
-/// `edge` requires its upstream and the tokens.
+/// `edge` requires its upstream and both lists of tokens.
 #[tactic(auto, unfolding(crate::specs::Words::edge_app))]
 fn edge<'a>(alloc: Global) -> Result<Command<'a>, AllocError>
     ensures { IfOk result (λ command. app_of command ≡ edge_app) }

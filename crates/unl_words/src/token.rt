@@ -11,8 +11,8 @@ use unl_documents::texts::is_name;
 use unl_documents::{List, Memory, Text};
 use unl_tokens::{BadToken, Projects, Scope};
 
-/// Returns the environments of tokens, in their order. The environment is empty if a text is not a token. The only error is
-/// out of memory.
+/// Returns the environments of tokens, in their order. The environment is empty if a text can't be read as a token. The only
+/// error is out of memory.
 pub fn token_environments(alloc: Global, tokens: &List<Text>) -> Result<List<Text>, Memory>
     ensures { IfOk result (λ environments. environments ≡ map environment_of tokens.now) }
 {
@@ -29,7 +29,7 @@ fn environments(alloc: Global, tokens: &[Text]) -> Result<List<Text>, Memory>
     Ok(environments)
 }
 
-/// Returns the environment of a token, or an empty text if the argument is not a token. The only error is out of memory.
+/// Returns the environment of a token, or an empty text if the argument can't be read as one. The only error is out of memory.
 pub fn token_environment(alloc: Global, token: &str) -> Result<Text, Memory>
     ensures { IfOk result (λ environment. environment ≡ environment_of token.now) }
 {

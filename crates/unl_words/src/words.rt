@@ -38,8 +38,8 @@ pub struct EdgeArguments {
     pub port: u16,
     /// The upstream's `HOST:PORT`.
     pub upstream: Text,
-    /// 1 to 8 tokens for the upstream, with distinct environments. Each token has one slot of the edge, in this
-    /// order: its environment, and the snapshot to evaluate.
+    /// 1 to 8 tokens for the upstream, with distinct environments. The edge has one slot for
+    /// each token, in this order.
     pub upstream_tokens: List<Text>,
     /// The tokens that the edge may accept from clients, if the upstream knows them: 1 to 1,024.
     pub tokens: List<Text>,
