@@ -70,7 +70,7 @@ put_keeping text keeping = record {
 abbrev pub read_keeping : MemoryKeeperState → MemoryKeeperState
 read_keeping keeping = record { opened = keeping.opened; kept = keeping.kept; past = keeping.past; counting = after_call keeping.counting }
 
--- the keeper after a failed `put`: it leaves the text if the failing call says so
+-- the keeper after a failed `put`, which leaves its text if `leaves` of the failing call is true
 abbrev pub left_keeping : List ℕ → MemoryKeeperState → MemoryKeeperState
 left_keeping text keeping = record {
   opened = keeping.opened;
@@ -87,7 +87,7 @@ CallOutcome well failed old new (Ok answer) = (planned_failure old.counting.fail
 CallOutcome well failed old new (Err Fault) = IsSome (planned_failure old.counting.failing old.counting.calls) × (new ≡ failed)
 CallOutcome well failed old new (Err Memory) = new ≡ old
 
--- a maker: the rows kept by the keeper that was returned last, and how many returned keepers had failed
+-- a maker: the kept rows of the keeper that it took back last, and its fault count
 pub record MemoryMakerState : Type 0 where
   pub held : List (List ℕ)
   pub faults : ℕ

@@ -87,7 +87,7 @@ pub record ReadsRow (place : ℕ) (old : KeeperState) (result : Result (Option (
 -- ---- a maker
 
 -- The state of a maker. `held` are the kept rows of the keeper that the maker took back last, if they are observable. Before the
--- maker takes back a keeper, there are no such rows. `faults` is its fault count. It rises when a call fails with `Fault`, and when
+-- maker takes back a keeper, `held` has no rows. `faults` is its fault count. It rises when a call fails with `Fault`, and when
 -- the maker takes back a keeper whose fault count is above 0.
 pub record MakerState : Type 0 where
   pub held : Option (List (List ℕ))

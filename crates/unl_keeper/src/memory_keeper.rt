@@ -120,7 +120,7 @@ impl MemoryKeeper {
         (kept, calls.faults)
     }
 
-    /// Appends the row that a failed put left to the kept rows, if there is one.
+    /// If a failed put left a row, appends that row to the kept rows.
     fn keep_past(&mut self) -> Result<(), KeepRefusal>
         ensures ok { OnOk result (self.new ≡ record self.old { kept = rows_of self.old; past = None }) }
         ensures err { IfErr result (λ e. (e ≡ KeepRefusal.Memory) × (self.new ≡ self.old)) }
