@@ -7,13 +7,13 @@ use Rattle.unl_workers.specs.Tallies.{tally}
 use Rattle.unl_workers.specs.declared.tally.QueueTally.{QueueTally}
 
 module _ {L : Type 0} (left sent : L → Option (List ℕ)) (faults : L → ℕ) where
-  -- an open door handed out these links, one after another, each with the bytes that were to come and nothing sent
+  -- an open door handed out these links, one after another, each with the bytes that the door's state lists for it, and nothing sent
   abbrev pub HandsOutEach : List L → DoorState → DoorState → Type 0
   HandsOutEach [] before after = after ≡ before
   HandsOutEach (link ∷ links) before after = (middle : DoorState) × IsOpenDoor before × (middle ≡ handing_out middle.closed before)
       × IsFresh before (left link) (sent link) (faults link) × HandsOutEach links middle after
 
-  -- These links were handed out, and exactly they were put into the queue. `may_put` is 1 if the pass may put more links afterwards, and
+  -- These links were handed out, and exactly these were put into the queue. `may_put` is 1 if the pass may put more links afterwards, and
   -- 0 otherwise.
   pub record QueuesLinks
       (may_put : ℕ) (links : List L) (view_before : QueueTally L) (before : DoorState) (view_after : QueueTally L) (after : DoorState)

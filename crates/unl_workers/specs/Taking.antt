@@ -19,7 +19,7 @@ ServesEach Serves [] before after = after ≡ before
 ServesEach {S} Serves (link ∷ links) before after =
     (middle : S) × ServesLink Serves link before middle × ServesEach Serves links middle after
 
--- `count` links were taken from the queue, and each was served, in this order. `ends_seen` is 1 if the entry that marks the end of the
+-- `count` links were taken from the queue, and each was served, in the same order. `ends_seen` is 1 if the entry that marks the end of the
 -- queue was taken.
 pub record TakesAndServes
     {S L : Type 0} (Serves : S → LinkView → LinkView → S → Type 0) (state_of : L → LinkView) (count ends_seen : ℕ)

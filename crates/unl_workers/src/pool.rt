@@ -45,7 +45,7 @@ pub enum PoolFault {
 
 /// Accepts the links of a door on this thread until it is closed or fails. Concurrently, each in a thread of its own, one
 /// worker for each slot serves them, and `turn` runs at a pace until the pace ends or no more links are accepted. If the door
-/// fails, the links that it handed out before are served as well. It may block.
+/// fails, the links that it handed out before are served as well. May block.
 ///
 /// # Errors
 /// `Spawner` if a job couldn't be started, and `Memory` if memory for the queue or the jobs runs out. No link was accepted

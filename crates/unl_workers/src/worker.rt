@@ -55,7 +55,7 @@ pub(crate) struct Worker<'a, S, R, L, W> {
     ghost parts: { 0 < (view pass).parts },
 }
 
-/// Takes links from the queue and serves each, until the queue is closed and empty. It may block.
+/// Takes links from the queue and serves each, until the queue is closed and empty. May block.
 pub(crate) fn serve_all<S: LinkHandler, R: Draws, L: Link + Drop, W: Wait>(
     worker: &mut Worker<'_, S, R, L, W>,
 )
@@ -75,7 +75,7 @@ pub(crate) fn serve_all<S: LinkHandler, R: Draws, L: Link + Drop, W: Wait>(
 }
 
 /// Does the work of one worker: takes links from the queue and serves each, until the queue is closed and empty.
-/// Returns how many were served. It may block. `pass` is the worker's right to use the queue.
+/// Returns how many were served. May block. `pass` is the worker's right to use the queue.
 pub fn run_worker<S: LinkHandler, R: Draws, L: Link + Drop, W: Wait>(
     alloc: Global,
     rt: &W,
