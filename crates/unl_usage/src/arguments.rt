@@ -23,7 +23,7 @@ pub enum ArgumentsFault {
 /// Why the arguments could not be read, in detail, for the report to the operator.
 #[derive(Drop)]
 pub(crate) enum Cause {
-    /// An argument or the path of the file isn't UTF-8. Carries a text that names the one that isn't.
+    /// An argument or the path of the file isn't UTF-8. Carries a text that says which.
     NotText(&'static str),
     /// The file can't be read, or isn't UTF-8. Carries its path and the error of the system.
     File(String, io::Error),

@@ -7,7 +7,7 @@ use std::time::UNIX_EPOCH;
 
 /// Warns if the database file or its write-ahead log was changed after the epoch. The epoch should be the time of the
 /// start, in seconds since 1970. If a file is newer, an earlier start may have used this epoch or a higher one. Edges
-/// may then keep the versions of the earlier start, because they drop what is older than their own. A file that
+/// may then keep the versions of the earlier start, because they drop versions older than their own. A file that
 /// doesn't exist, or whose time can't be read, causes no warning. Nothing is printed if memory runs out.
 pub fn warn_of_epoch<R: Files + Eprint>(rt: &R, alloc: Global, path: &str, epoch: u64) {
     let Ok(log) = log_of(alloc, path) else {

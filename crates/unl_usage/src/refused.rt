@@ -33,7 +33,7 @@ fn report<E: Eprint, D: Display + Drop>(rt: &E, line: D) {
 }
 
 /// Returns the text to print for refused arguments: the reason and the usage, as lines. If the first argument is
-/// `--version` or `-V`, it is the version instead. The text contains no option value that was given, since it may be
+/// `--version` or `-V`, the text is the version instead. The text contains no option value that was given, since it may be
 /// secret.
 ///
 /// # Errors

@@ -1,5 +1,5 @@
-//! Finds the option whose value `read_words` refuses: calls `read_words` with each value alone, together with valid
-//! sample values for the other required options.
+//! Finds why the value of an option is refused: calls `read_words` with this value, or with one of its list items, and
+//! with valid sample values for the other required options.
 use crate::options::{CommandOption, OptionKind, sample_of};
 use crate::scan::Given;
 use std::alloc::{AllocError, Global};
@@ -18,7 +18,7 @@ pub(crate) enum ValueFault {
     /// It is a list without items.
     #[error("is an empty list")]
     EmptyList,
-    /// This item of the list is refused even as the only item. Its position counts from 1, without empty items.
+    /// The item at this position is refused even as the only item. Positions count from 1 and skip empty items.
     #[error("has a bad item {0}")]
     BadItem(usize),
     /// Each item alone is accepted. There are too many items, or two items are equal that must differ.
