@@ -1,5 +1,6 @@
--- How a look changes the list of installs that a reader knows: the list after the look starts with the list before it. The relation
--- `Continued` states this. The trait `Desk` requires that the relation is reflexive and transitive, which is proved below.
+-- How looks change the list of installs that a reader knows: the list after a look starts with the list before the look. The relation
+-- `Continued` states this. Readers implement the trait `Desk`, which requires that the relation is reflexive and transitive. Both are
+-- proved below.
 use Rattle.std.proofs.Common.{◌≡◌, List, ◌++◌, length, take, drop, Option, true, is_some, refl, sym, ap, ◌∙◌, append_assoc}
 use Rattle.std.proofs.Math.Seq.{take-append_seam, take-length}
 use Rattle.std.proofs.lemmas.List.{take-append-drop}
@@ -9,10 +10,10 @@ use Rattle.unl_publication.specs.declared.knowledge.Knowledge.{Knowledge}
 use Rattle.unl_publication.specs.Meaning.{before_of}
 use Rattle.unl_publication.specs.Rule.{StartsWith}
 
--- How a reader's state may change. `now` is its knowledge. If the reader learned a list since its last look, `past` is its knowledge at
--- that look, otherwise `past` is `None`. `after` and `past_after` are the same two at a later time. The opening board is unchanged. The
--- later list of installs starts with the earlier one. The boards known before the learned list are unchanged. If `past_after` is
--- present, it equals `past`.
+-- How looks may change a reader's state. `now` is the reader's knowledge. If a learned list has replaced the reader's own list since the
+-- last look, `past` is what the reader knew at that look, otherwise `past` is `None`. `after` and `past_after` are the same two at a
+-- later time. The opening board is unchanged. The later list of installs starts with the earlier one. The boards that the reader knew
+-- before a learned list replaced its own are unchanged. If `past_after` isn't `None`, `past_after` equals `past`.
 abbrev pub Continued :
     Option (Knowledge BoardAt Install) → Knowledge BoardAt Install → Option (Knowledge BoardAt Install) → Knowledge BoardAt Install → Type 0
 Continued past now past_after after =
@@ -31,6 +32,7 @@ starts_with front whole is = (
       ∙ ap (λ (xs : List Install). xs ++ drop (length front) whole) is,
 )
 
+-- If `whole` starts with `front`, then the first items of `whole` are `front`.
 takes_front : (front whole : List Install) → StartsWith whole front → take (length front) whole ≡ front
 takes_front front whole h = ap (take (length front)) h.1 ∙ take-append_seam front h.0
 

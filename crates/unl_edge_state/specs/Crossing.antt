@@ -1,5 +1,6 @@
--- The types of the readers and writers of editions, and of the `left_right` readers and writers inside them. They serve to state
--- that these can be sent to another thread. An edition is a board and the number of installs that led to it.
+-- The types of the readers and writers of editions, and of the readers and writers inside them. The inner ones are of `left_right`, the
+-- crate that shares a value between a writer and several readers. Contracts use the types to state that values of these types can be
+-- sent to another thread. An edition is a board, the number of installs that led to it, and whether its publication is orderly.
 use denote.RattleType.{RattleType}
 use denote.Ref.{NamedLft}
 use Rattle.left_right.specs.contracts.reader.Reader as Seat
@@ -45,8 +46,8 @@ publishing_type =
     Publishing.the_row Edition.the_row Install.the_row (Ruled.the_row Install.the_row) Edition.the_row counted.ghosts absorb.ghosts
     (ruled.ghosts Edition.the_row Install.the_row Edition.the_row counted.ghosts ruled.no_dict absorb.ghosts ruled.no_dict ruled.no_dict)
 
--- The type of a publisher of editions. It holds a reference to a value of type `wait`, with which it waits for readers. `lifetime`
--- is the lifetime of this reference.
+-- The type of a publisher of editions: a writer of editions, with a reference to the value of type `wait` with which the publisher waits
+-- for readers. `lifetime` is the lifetime of this reference.
 abbrev pub publisher_type : NamedLft → RattleType → RattleType
 publisher_type lifetime wait =
     Publisher.the_row lifetime wait Edition.the_row Install.the_row (Ruled.the_row Install.the_row) Edition.the_row counted.ghosts

@@ -6,13 +6,13 @@ use Rattle.unl_core.specs.Board.{board_after, installed}
 use Rattle.unl_publication.specs.declared.knowledge.Knowledge.{Knowledge}
 
 -- A board, the number of installs that led to it (its front), and whether the publication is orderly. In an orderly publication,
--- each version that is installed at a slot results from the slot's current version by one batch of changes.
+-- each version that is installed at a slot results from the slot's current version, if there is one, by one batch that applies.
 pub record BoardAt : Type 0 where
   pub board : Board
   pub front : ℕ
   pub orderly : Bool
 
--- An opening board, before any install.
+-- The opening board, before any install, of a publication that is orderly if the flag is true.
 abbrev pub opening_of : Bool → Board → BoardAt
 opening_of orderly board = record { board = board; front = 0; orderly = orderly }
 
@@ -24,7 +24,7 @@ opening_at board = opening_of false board
 abbrev pub orderly_opening : Board → BoardAt
 orderly_opening board = opening_of true board
 
--- The board and its front after one more install.
+-- The board and its front after one more install. Whether the publication is orderly doesn't change.
 abbrev pub edited : BoardAt → Install → BoardAt
 edited old what = record { board = installed what old.board; front = old.front + 1; orderly = old.orderly }
 

@@ -1,5 +1,5 @@
 -- Orderly lists of installs. An install changes a board: it sets a new token book, or a new version at a slot. In an orderly list each
--- version is the slot's version before it, changed by one batch of events.
+-- version results from the slot's previous version, if there is one, by one batch of events that applies.
 use Rattle.std.specs.Prelude.{◌≡◌, ℕ, Bool, true, false, ⊤, List, [], ◌∷◌, IfSome, option_map, unwrap_or}
 use Rattle.unl_core.specs.declared.board.Board.{Board}
 use Rattle.unl_core.specs.declared.board.Install.{Install}
@@ -34,7 +34,7 @@ abbrev pub IsOrderly : Board → List Install → Type 0
 IsOrderly board [] = ⊤
 IsOrderly board (what ∷ more) = MayComeNext board what × IsOrderly (installed what board) more
 
--- The installs that are known to be published are an orderly list, from the opening board on.
+-- If the opening board is known, the installs that are known to be published are an orderly list from the opening board on.
 abbrev pub KnowsOrderly : Knowledge BoardAt Install → Type 0
 KnowsOrderly known = IfSome known.opening (λ opening. IsOrderly opening.board known.installs)
 
@@ -46,7 +46,8 @@ AllowsInstall edition what = edition.orderly ≡ true → MayComeNext edition.bo
 abbrev pub is_orderly : Knowledge BoardAt Install → Bool
 is_orderly known = unwrap_or (option_map (λ opening. opening.orderly) known.opening) false
 
--- The install may be published next on the board that is known. If the publication is known to be orderly, this requires `MayComeNext`.
+-- The install may be published next on the board after the known installs. If the publication is known to be orderly, this requires
+-- `MayComeNext`; otherwise nothing.
 abbrev pub MayInstall : Knowledge BoardAt Install → Install → Type 0
 MayInstall known what = is_orderly known ≡ true → MayComeNext (board_known known) what
 

@@ -1,5 +1,5 @@
 -- What a writer of the board has published, and the places that it keeps. An install is one published change of the board. The place
--- of a slot has the slot's version, and whether the slot is held: it then ignores changes until a whole state (a hydration) applies.
+-- of a slot has the slot's version, if any, and whether the slot is held. To a held slot, nothing applies until a hydration does.
 use Rattle.std.specs.Prelude.{◌≡◌, ℕ, ◌<◌, [], ◌∷◌, List, length, Bool, true, ⊤, is_some, slice_set, Option, Some, false, IfSome}
 use Rattle.unl_core.specs.declared.board.Install.{Install}
 use Rattle.unl_core.specs.declared.board.Install.TheVariants.{Tokens, Env}
@@ -20,17 +20,19 @@ pub record Writing : Type 0 where
   pub places : List Place
   pub closed : Bool
 
--- The invariant of a writer: its opening board is known, and each place has the version of its slot on the published board.
+-- The invariant of a writer: its opening board is known, and each place has the version of its slot on the published board. The board's
+-- slots (at most eight, each for another environment) and the places are valid.
 pub record IsWriting (known : Knowledge BoardAt Install) (places : List Place) : Type 0 where
   pub begun : is_some known.opening ≡ true
   pub represents : PlacesMatch (board_known known) places
 
--- The writer as an installer: the places, the number of publications, and the board's token book.
+-- The part of the writer's state that the trait `Installer` knows: the places, the number of publications, and the board's token book.
 abbrev pub installed_by : Writing → Installed
 installed_by w = record { places = w.places; front = length w.known.installs; book = (board_known w.known).book }
 
 -- `installed` is the state after the opening board and these installs: its front is the number of the installs, and its book and the
--- version of each place are those of the board after them. `edition` is the opening board; if it is `None`, only the front is claimed.
+-- version of each place are those of the board after them. The places and the slots of that board are valid. `edition` is the opening
+-- board; if it is `None`, only the front is claimed.
 pub record LeadsTo (edition : Option BoardAt) (installs : List Install) (installed : Installed) : Type 0 where
   pub front : installed.front ≡ length installs
   pub book : IfSome edition (λ opening. installed.book ≡ (board_after opening.board installs).book)
@@ -40,7 +42,7 @@ pub record LeadsTo (edition : Option BoardAt) (installs : List Install) (install
 abbrev pub with_install : Install → Writing → Writing
 with_install what w = record w { known = with_installs (what ∷ []) w.known }
 
--- The writer after a version is published at a slot, which is then held or not.
+-- The writer after a version is published at a slot. `held` says whether the slot is then held.
 abbrev pub with_version : ℕ → EnvVersion → Bool → Writing → Writing
 with_version slot version held w = record {
   known = with_installs (Env slot version ∷ []) w.known;
@@ -53,20 +55,20 @@ abbrev pub after_publish : Install → Writing → Writing
 after_publish (Tokens book) w = with_install (Tokens book) w
 after_publish (Env slot version) w = with_version slot version (place_of (installed_by w) slot).held w
 
--- The writer after a batch that applies is published at a slot, which is then not held.
+-- The writer after a batch applied at a slot and the resulting version was published. The slot is then not held.
 abbrev pub writer_after_batch : ℕ → Batch → Writing → Writing
 writer_after_batch slot batch w = with_version slot (next_version (place_of (installed_by w) slot) batch) false w
 
--- The writer after a slot is held.
+-- The writer after a slot becomes held. The slot's version doesn't change, and nothing is published.
 abbrev pub writer_after_hold : ℕ → Writing → Writing
 writer_after_hold slot w =
     record w { places = slice_set w.places slot (record { version = (place_of (installed_by w) slot).version; held = true }) }
 
--- Nothing was published, though later publications may fail from now on.
+-- Nothing was published and no place changed. Only `closed` may have changed: every later publication may fail from now on.
 abbrev pub Stays : Writing → Writing → Type 0
 Stays old new = new ≡ record old { closed = new.closed }
 
--- The slot of an install is below `slots`.
+-- The slot of the install, if it has one, is below `slots`.
 abbrev pub HasSlotBelow : Install → ℕ → Type 0
 HasSlotBelow (Tokens book) slots = ⊤
 HasSlotBelow (Env slot version) slots = slot < slots

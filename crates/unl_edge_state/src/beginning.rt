@@ -17,12 +17,13 @@ use unl_core::{Board, Install, Slot, places_at};
 use unl_documents::{List, Memory, Text, TryClone};
 use unl_publication::{Ruled, Writer, new_reader};
 
-/// Creates a writer of a board that takes any install, and `readers` readers that know only the opening board. There is
-/// also room for `readers` lists that the writer has reported and no reader has learned yet.
+/// Creates a writer with the opening board `board`, and `readers` readers that know only this board. The writer takes
+/// any install, and waits for readers with `rt`. There is also room for `readers` lists that the writer has reported and
+/// no reader has learned yet.
 ///
 /// # Errors
 ///
-/// Fails if it runs out of memory or a reader can't be made.
+/// `Memory` if the call runs out of memory or a reader can't be made.
 pub fn begin<'a, W: Wait>(
     rt: &'a W,
     alloc: Global,
@@ -42,12 +43,12 @@ pub fn begin<'a, W: Wait>(
     begin_with(rt, alloc, board, readers, false)
 }
 
-/// As `begin`, but the publication is orderly: each version that is installed must be the next one at its slot, after a
-/// batch that applies there. So no reader sees an older version at a larger front.
+/// As `begin`, but the publication is orderly: each version that is installed must result from the slot's version on the
+/// published board, if there is one, by one batch that applies.
 ///
 /// # Errors
 ///
-/// Fails if it runs out of memory or a reader can't be made.
+/// `Memory` if the call runs out of memory or a reader can't be made.
 pub fn begin_orderly<'a, W: Wait>(
     rt: &'a W,
     alloc: Global,
@@ -162,7 +163,7 @@ fn copies_of(alloc: Global, slots: &[Slot]) -> Result<Vec<Slot>, Memory>
     Ok(copies)
 }
 
-/// Copies a slot. The copy shares its snapshot.
+/// Copies a slot. The copy shares the slot's snapshot.
 fn copy_of_slot(alloc: Global, slot: &Slot) -> Result<Slot, Memory>
     ensures { IfOk result (λ copy. copy ≡ slot.now) }
 {

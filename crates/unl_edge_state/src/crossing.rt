@@ -1,6 +1,8 @@
 //! Proofs that the reader and the writer of the edge's published boards can be sent to another thread. One proof search
-//! over all types that a board consists of times out, so the proof has steps: first an edition (a board and the number
-//! of installs that led to it), then the reader or writer of `left_right` over editions, then that of the edge.
+//! over all types that a board consists of times out, so the proof has steps. The first is for editions (an edition is a
+//! board, the number of installs that led to it, and whether its publication is orderly) and for installs. The next is
+//! for the readers and writers of editions in `left_right`, the crate that shares a value between a writer and several
+//! readers. Then follow the writer of `unl_publication`, and the reader and the writer of the edge.
 ghost use denote.Ref.{NamedLft};
 ghost use Rattle.std.specs.Thread.{IsSend, IsSync};
 ghost use Rattle.unl_core.specs.contracts.board.Install as InstallType;
@@ -18,12 +20,12 @@ use unl_core::Install;
 use unl_delta::Place;
 use unl_publication::{Knowledge, Ruled, Writer as Publishing};
 
-/// Turns the bound `Sync` into a fact.
+/// Turns the bound `T: Sync` into a fact that proofs can use.
 fn sync_of<T: Sync>()
     ensures { IsSync T.row }
 {}
 
-/// Turns the bound `Send` into a fact.
+/// Turns the bound `T: Send` into a fact that proofs can use.
 fn send_of<T: Send>()
     ensures { IsSend T.row }
 {}
@@ -87,7 +89,7 @@ fn sides_cross()
     send_of::<Sides<Edition, Install, Knowledge<Edition, Install>, Ruled<Install>>>()
 }
 
-/// The writer of editions is `Send`.
+/// The `unl_publication` writer of editions is `Send`.
 fn publishing_crosses()
     ensures { IsSend publishing_type }
 {

@@ -1,4 +1,4 @@
-//! The published value: a board, and how many installs led to it.
+//! The published value: a board, how many installs led to it, and whether its publication is orderly.
 ghost use Rattle.std.specs.Prelude.{◌≡◌, IfOk};
 ghost use Rattle.unl_core.specs.Board.{AreSlots};
 ghost use Rattle.unl_edge_state.specs.Editions.{opening_of};
@@ -34,8 +34,8 @@ impl Model for Edition {
 }
 
 impl Edition {
-    /// Creates the opening edition, before any install. In an orderly publication each version that is installed is the
-    /// next one at its slot; otherwise any install may come.
+    /// Creates the opening edition, before any install. In an orderly publication each version that is installed results
+    /// from the slot's current version, if there is one, by one batch that applies; otherwise any install may come.
     pub fn new(board: Board, orderly: bool) -> Edition
         requires { AreSlots board.slots }
         ensures { result ≡ opening_of orderly board }
@@ -100,7 +100,7 @@ impl Counted<Install> for Edition {
     ghost counts = { λ s what. refl };
 }
 
-/// Copies an install, which shares its book or snapshot.
+/// Copies an install. The copy shares the install's book or snapshot.
 fn copy_of(what: &Install) -> Result<Install, Memory>
     ensures { IfOk result (λ copy. copy ≡ what.now) }
 {

@@ -1,5 +1,6 @@
-//! Laws of boards, lists of installs and readers. A caller calls one of these functions to have its fact in a proof.
-//! They do nothing at run time.
+//! Laws of boards, lists of installs and readers. Each function here has a law as its contract, and does nothing at run
+//! time. A caller calls the function to have the law in a proof. A reader that learns a list longer than its own
+//! continues from the learned list: this list replaces the reader's own, and the list of its next look starts with it.
 ghost use Rattle.std.specs.Prelude.{◌≡◌, ◌≤◌, ℕ, List, IfSome, Option, Some, length, take, true};
 ghost use Rattle.unl_core.specs.declared.board.Board.{Board};
 ghost use Rattle.unl_core.specs.declared.board.Install.{Install};
@@ -16,9 +17,9 @@ ghost use Rattle.unl_edge_state.specs.declared.reader.EdgeReader.{EdgeReader};
 ghost use Rattle.unl_publication.specs.Looking.{StaysOrTakes};
 ghost use Rattle.unl_publication.specs.declared.knowledge.Knowledge.{Knowledge};
 
-/// The board at a front `k` is the opening board after the first `k` installs that the reader saw. This holds if no
-/// list that the reader learned replaced the installs it knew, or if the reader knew only the opening board when a
-/// list did (as for a worker's reader before its first look).
+/// `known` is what a reader knows. Suppose that the reader never continued from a learned list, or only when it knew no
+/// board but the opening board (as a worker's reader does before its first look). Then the board that is known at each
+/// front `k`, up to the number of known installs, is the opening board after the first `k` known installs.
 pub fn boards_are_after_installs()
     ensures { (known : Knowledge BoardAt Install) (opening : BoardAt) (k : ℕ) → known.opening ≡ Some opening
         → ContinuedFromOpening opening known → k ≤ length known.installs
@@ -32,8 +33,10 @@ pub fn versions_never_fall()
         → IsNotBelow (snapshot_at (board_after board (take j list)).slots slot) (snapshot_at (board_after board (take k list)).slots slot) }
 {}
 
-/// A reader of an orderly publication knows boards of its list at several fronts. Of two of them, the board at the
-/// larger front has no older version at any slot, and each slot that has a version on the other board has one on it.
+/// Take two boards that a reader of an orderly publication has seen. Suppose that `IsOfList` is true of the smaller
+/// front `j`, so the board at `j` is the opening board after the first `j` installs of the list that the reader last
+/// saw. Then the board at the larger front has no older version at any slot, and has a version at each slot where the
+/// other board has one.
 pub fn readers_see_order()
     ensures { (reader : EdgeReader) (opening : BoardAt) (j k slot : ℕ) (first later : Board) → (seen_by reader).opening ≡ Some opening
         → is_orderly (seen_by reader) ≡ true → IsOfList opening (seen_by reader) j → j ≤ k
@@ -41,16 +44,19 @@ pub fn readers_see_order()
         → IsNotBelow (snapshot_at first.slots slot) (snapshot_at later.slots slot) }
 {}
 
-/// A reader of an orderly publication that meets the condition of [`boards_are_after_installs`] saw an orderly list. Of
-/// any two boards that it knows, the one at the larger front has no older version at any slot.
+/// Take a reader of an orderly publication that never continued from a learned list, or only when it knew no board but
+/// the opening board. The list that the reader last saw is orderly. Of any two boards that the reader has seen, the one
+/// at the larger front has no older version at any slot, and has a version at each slot where the other board has one.
 pub fn steady_readers_see_in_order()
     ensures { (reader : EdgeReader) → IsSteady reader → SeesInOrder reader }
 {}
 
-/// `line` is a list of histories of an environment, and `sees` says which projects are visible. Suppose that each
-/// version of a slot, on the opening board and after each install, is a revision of one of these histories, filtered
-/// by `sees`. Then on the board at each front, the slot has no version or such a revision. The condition on the
-/// reader is that of [`boards_are_after_installs`].
+/// `line` is a list of histories of an environment, `sees` says which projects are visible, and `known` is what a reader
+/// knows. `SlotRepresented` is true of a board if the slot has no version, or the version has the state of a revision of
+/// the history of its epoch in `line` and the latest changes that led to that state, both without the features of
+/// projects that aren't visible. Suppose that `SlotRepresented` is true of the opening board and of the board after each
+/// known install, and that the reader never continued from a learned list, or only when it knew no board but the opening
+/// board. Then `SlotRepresented` is true of the board that is known at each front up to the number of known installs.
 pub fn boards_represent_lines()
     ensures { (line : List Era) (sees : Sees) (slot : ℕ) (known : Knowledge BoardAt Install) (opening : BoardAt) (k : ℕ)
         → known.opening ≡ Some opening → ContinuedFromOpening opening known → k ≤ length known.installs
@@ -58,8 +64,11 @@ pub fn boards_represent_lines()
         → IfSome (board_of known k) (SlotRepresented line sees slot) }
 {}
 
-/// `ContinuesFrom` relates each reader to its own state. If it relates a reader to an earlier state, it still does
-/// after one more look of the reader.
+/// `ContinuesFrom` relates an earlier state of a reader to a later one. The opening board is the same in both, and so are
+/// the boards that the reader knew before it continued from a learned list. The later list of installs starts with the
+/// earlier list. `past_of` is the same in both, or `None` in the later state. Clause `itself`: each state is related to
+/// itself. Clause `look`: a state that is related to a later one is still related to it after one more look, even a
+/// look that failed.
 pub fn looks_continue()
     ensures itself { (reader : EdgeReader) → ContinuesFrom (past_of reader) (continuation_of reader) reader }
     ensures look { (past : Option (Knowledge BoardAt Install)) (now : Knowledge BoardAt Install) (before after : EdgeReader)
@@ -67,8 +76,11 @@ pub fn looks_continue()
         → ContinuesFrom past now before → ContinuesFrom past now after }
 {}
 
-/// A reader began with a list of installs, and has only looked since. Then each board that it knows at a front of at
-/// least the length of this list is the opening board after a list of installs that starts with this one.
+/// A reader learned the list `installs` when it knew no board but the opening board, and has only looked since. The state
+/// of the reader was `reader` then and is `later` now. If the list that the reader last saw has at least as many installs
+/// as `installs`, that list starts with `installs`. If the opening board is known, each board that the reader has seen at
+/// a front of at least the number of these installs is the opening board after a list that starts with `installs`. Before
+/// its last look, the reader never continued from a learned list, or only when it knew no board but the opening board.
 pub fn answers_are_after_installs()
     ensures { (edition : Option BoardAt) (installs : List Install) (reader later : EdgeReader) → StartsReader edition installs reader
         → ContinuesFrom (past_of reader) (continuation_of reader) later → AnswersAfter edition installs later }

@@ -1,4 +1,4 @@
-//! A desk that answers each request from the board that is published at that moment.
+//! A desk that looks at the published board for each request, and answers from that board.
 ghost use Rattle.std.specs.Prelude.{max, ◌≡◌, ◌≤◌, true, is_some, unwrap_or, option_map, IfSome};
 ghost use Rattle.std.specs.Prelude.{OnErr, OnOk, Some};
 ghost use Rattle.std.specs.Result.{is_ok};
@@ -17,15 +17,15 @@ use unl_documents::Memory;
 use unl_http_api::Request;
 use unl_publication::{Reader, Ruled};
 
-/// A report of the writer at one moment, which one reader takes with `learn` or `learn_all`. It has the number of
-/// published installs (changes of the board) and, if there was room for it, their list.
+/// A report of the writer at one moment, which one reader takes with `learn` or `learn_all`. The report has the number of
+/// published installs (changes of the board) and, if there was room, the list of these installs.
 pub type Told = unl_publication::Told<Edition, Install, Ruled<Install>>;
 
 /// A desk that answers requests from the boards that one writer publishes. It looks at the published board once for
 /// each answer, and never waits.
 #[derive(Drop)]
 pub struct EdgeReader {
-    /// The reader. It is `None` only while a call passes it by value.
+    /// The `unl_publication` reader. The field is `None` only while a call passes this reader by value.
     pub(crate) seat: Option<Reader<Edition, Install, Ruled<Install>>>,
     ghost has_opening: { is_some (unwrap_or (option_map next seat) knows_nothing).opening ≡ true },
 }
@@ -42,9 +42,10 @@ impl EdgeReader {
         EdgeReader { seat: Some(seat) }
     }
 
-    /// Learns from `told`, which the writer's `tell` returned. Each later answer is from a board after at least as many
-    /// installs as `told` counts. What the reader knew stays known. If `told` counts more installs than the reader
-    /// knows, and has their list, the next list that the reader takes starts with that list. Doesn't allocate.
+    /// Learns from `told`, which `tell` of the reader's own writer returned. Each later answer is from a board after at
+    /// least as many installs as `told` counts. What the reader saw at its last look stays known. If `told` counts more
+    /// installs than the reader knows, and has a list of them, the reader continues from that list: the next list that
+    /// the reader takes starts with that list. Doesn't allocate.
     pub fn learn(&mut self, told: Told)
         requires origin { IfSome (reported_list told) (λ list. SameOrigin list (continuation_of self.old)) }
         ensures origin { SameOrigin (continuation_of self.new) (continuation_of self.old) }
@@ -61,8 +62,9 @@ impl EdgeReader {
         self.seat = Some(seat);
     }
 
-    /// Learns from `told` as `learn` does, but requires its list. A new reader then continues from exactly the installs
-    /// of that list. Doesn't allocate.
+    /// Learns from `told` as `learn` does, but fails if `told` has no list. A reader of an orderly publication that knew
+    /// the opening board and no installs, and never continued from a learned list, then continues from exactly the
+    /// installs of the list in `told`. Doesn't allocate.
     ///
     /// # Errors
     ///
@@ -115,8 +117,9 @@ impl Desk for EdgeReader {
     ///
     /// # Errors
     ///
-    /// `Memory` if the answer runs out of memory, if `left_right` refused the look (it gives no cause), or if the board
-    /// has fewer installs than the reader has learned of.
+    /// `Memory` if the answer runs out of memory, if the look was refused, without a cause, by `left_right` (the crate that
+    /// shares the board between the writer and the readers), or if fewer installs led to the board than the reader has
+    /// learned of.
     fn answer(
         &mut self,
         alloc: Global,
@@ -133,23 +136,23 @@ impl Desk for EdgeReader {
         ensures entered { IfOk result (λ a. Enters (Some (seen_by self.old).fronts) (a.0 ∷ []) (Some (seen_by self.new).fronts)) }
         ensures unanswered { OnErr result (EntersAtMostOnce (Some (seen_by self.old).fronts) (Some (seen_by self.new).fronts)) }
 
-        // The answer is from the opening board after all installs of the list that the reader took. The front is their
-        // number.
+        // The answer is from the opening board after all installs of the list that the reader took in this look.
         ensures over { IfOk result (λ a. a.1 ≡ answer_of (board_known (seen_by self.new)) request.now draw.entry.now) }
 
-        // If the publication is orderly, so is the list that the reader took: each of its installs may come next on the
-        // board after the installs before it.
+        // If the publication is orderly, so is the list that the reader took: each version in the list results from the
+        // slot's previous version, if there is one, by one batch that applies.
         ensures orderly { IfOk result (λ _. KeepsOrder (seen_by self.new)) }
 
         // The list that the reader took starts with the list that it continued from, and has at least as many installs
-        // as the reader has learned of.
+        // as the reader has learned of. The reader then continues from the list that it took. Whether it answered or
+        // not, the publication, the opening board and the number of installs that it has learned of are unchanged.
         ensures list { IfOk result (λ _. StartsWith (seen_by self.new).installs (continuation_of self.old).installs) }
         ensures at_least_learned { IfOk result (λ a. learned_front_of self.old ≤ a.0) }
         ensures next { IfOk result (λ _. continuation_of self.new ≡ seen_by self.new) }
         ensures origin { SameOrigin (continuation_of self.new) (continuation_of self.old) }
         ensures same_learned_front { learned_front_of self.new ≡ learned_front_of self.old }
 
-        // Whether it answered or not, the reader is unchanged or took a list.
+        // Whether the reader answered or not, what it continues from is unchanged, or the reader took a list.
         ensures stays_or_takes { StaysOrTakes edited (past_of self.old) (continuation_of self.old)
             (past_of self.new) (continuation_of self.new) }
     {

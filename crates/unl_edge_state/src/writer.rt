@@ -1,4 +1,4 @@
-//! The writer of a board, which publishes each install on it.
+//! The writer of a board. The writer publishes installs on the board.
 ghost use Rattle.std.specs.Prelude.{◌≡◌, ◌-◌, ◌^◌, ◌<◌, List, true, false, length, IfOk, IfNone, IfSome, IsErr, OnErr, OnOk};
 ghost use Rattle.std.specs.Prelude.{OnSome};
 ghost use Rattle.unl_core.specs.declared.board.Install.TheVariants.{Env, Tokens};
@@ -30,8 +30,8 @@ use unl_documents::{Memory, Shared};
 use unl_publication::{Counted, Publisher, Ruled, Writer};
 use unl_tokens::Book;
 
-/// Publishes each install on a board, and keeps the place of each slot: the slot's version, and whether the slot is
-/// held until it gets a hydration. It isn't `Drop`: close it with `end`.
+/// Publishes installs on a board, and keeps the place of each slot: the slot's version, if any, and whether the slot is
+/// held (to a held slot, nothing applies until a hydration does). A writer isn't `Drop`: close it with `end`.
 pub struct EdgeWriter<'a, W: Wait> {
     publisher: Publisher<'a, W, Edition, Install, Ruled<Install>>,
     places: Vec<Place>,
@@ -53,7 +53,8 @@ impl<'a, W: Wait> Model for EdgeWriter<'a, W> {
 }
 
 impl<'a, W: Wait> EdgeWriter<'a, W> {
-    /// Creates a writer from the writer of a publication and the places of the board's slots.
+    /// Creates a writer from the writer of a publication and the places of the board's slots. The new writer waits for
+    /// readers with `rt`.
     pub(crate) fn over(
         rt: &'a W,
         writer: Writer<Edition, Install, Ruled<Install>>,
@@ -77,13 +78,14 @@ impl<'a, W: Wait> EdgeWriter<'a, W> {
     }
 
     /// Publishes an install and returns the new front: the number of installs published so far. If the publication is
-    /// orderly, a version that is installed has to be the next one at its slot on the published board. Whether a slot
-    /// is held doesn't change. Waits for readers that still look at an older board.
+    /// orderly, a version that is installed has to result from the slot's version on the published board, if there is
+    /// one, by one batch that applies. Whether a slot is held doesn't change. Waits for readers that still look at an
+    /// older board.
     ///
     /// # Errors
     ///
-    /// Fails if it runs out of memory. Nothing is published then. If this happens after the install was logged, every
-    /// later call fails too.
+    /// `Memory` if the call runs out of memory. Nothing is published then. If the install was already appended to the log
+    /// of the crate `left_right`, which shares the board with the readers, every later publication fails too.
     pub fn publish(&mut self, alloc: Global, what: Install) -> Result<u64, Memory>
         requires front { length self.old.known.installs < 2 ^ 64 - 1 }
         requires within { HasSlotBelow what (length self.old.places) }
@@ -104,7 +106,7 @@ impl<'a, W: Wait> EdgeWriter<'a, W> {
     }
 
     /// Returns what one reader can learn now: the number of published installs and, if there is room for one more
-    /// reader, their list. Changes nothing, and doesn't allocate.
+    /// reader, the list of these installs. What is published and the places are unchanged. Doesn't allocate.
     pub fn tell(&mut self) -> Told
         ensures same { self.new ≡ self.old }
         ensures front { reported_front result ≡ length self.old.known.installs }
@@ -143,7 +145,7 @@ impl<'a, W: Wait> EdgeWriter<'a, W> {
     }
 
     /// Publishes a version at a slot, and sets whether the slot is held. In an orderly publication the version has to
-    /// follow the slot's current one.
+    /// result from the slot's current version, if there is one, by one batch that applies.
     fn publish_version(
         &mut self,
         alloc: Global,
