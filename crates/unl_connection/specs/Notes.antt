@@ -15,19 +15,19 @@ use Rattle.unl_core.specs.Recording.{final_book, final_reply}
 use Rattle.unl_metrics.specs.Book.{Book}
 use Rattle.unl_connection.specs.declared.served.ServedOne.{ServedOne}
 
--- the notes of the answered requests, and the book with their reports
+-- the notes of the answered requests, and the metrics book to which their reports were added
 pub record Noted : Type 0 where
   pub ones : List ServedOne
   pub book : Book
 
--- notes and a book as one value
+-- notes and a metrics book as one value
 abbrev pub noted : List ServedOne → Book → Noted
 noted ones book = record { ones = ones; book = book }
 
--- One more note, `one`, is appended for an answer. The answer is computed from the board at the note's front, with the note's draw.
--- The reply is that of the answer, or says that the metrics book is full. The answer's report is added to the book, unless the book
--- is full. If each slot of the board holds a version that represents the histories of its environment, each token sees one revision
--- of these histories.
+-- The effect of one answer: one more note, `one`, is appended. The answer is computed from the board that `board_at` gives for the
+-- note's front, with the note's draw. The answer's reply is sent, and the answer's report, if there is one, is added to the metrics
+-- book. But if the book has no room for the report, the reply is a 503 and the book is unchanged. If each version on the board
+-- represents the histories of its environment (one history of changes per epoch), each token sees one revision of these histories.
 pub record Notes
     (board_at : ℕ → Option Board) (before : Noted) (request : Request) (reply : Reply) (after : Noted) : Type 0 where
   pub one : ServedOne
@@ -42,7 +42,7 @@ pub record Notes
 abbrev pub NotesNothing : Noted → Request → Noted → Type 0
 NotesNothing before request after = after ≡ before
 
--- the fronts of the notes never decrease, start at `first` or above, and end at `last` or below
+-- the fronts of the notes never decrease, start at `first` or above, and end at `last` or below; without notes, `first` is at most `last`
 abbrev pub FrontsRise : ℕ → List ServedOne → ℕ → Type 0
 FrontsRise first [] last = first ≤ last
 FrontsRise first (one ∷ ones) last = (first ≤ one.front) × FrontsRise one.front ones last
@@ -51,13 +51,15 @@ FrontsRise first (one ∷ ones) last = (first ≤ one.front) × FrontsRise one.f
 abbrev pub fronts_of : List ServedOne → List ℕ
 fronts_of ones = map (λ one. one.front) ones
 
--- the desk looked once for each note, at the front of the note; and once more at most, if memory ran out
+-- The desk looked once for each note, and found the board of the note's front. If memory ran out, it may have looked once more.
+-- `fronts` and `fronts_after` are the fronts of all looks of the desk before and after, or `None` if these are not observable.
 abbrev pub LooksFor : Option (List ℕ) → List ServedOne → End → Option (List ℕ) → Type 0
 LooksFor fronts ones end fronts_after =
     Enters fronts (fronts_of ones) fronts_after
     ⊎ ((end ≡ Memory) × (front : ℕ) × Enters fronts (fronts_of ones ++ front ∷ []) fronts_after)
 
--- the draws of the notes were taken in the order of the notes, and no other draws were taken
+-- The draws of the notes were taken in the order of the notes, and no other draws were taken. `coming` and `after` are the draws still
+-- to come, before and after: a list and then a last draw that is repeated for ever, or `None` if the draws are not observable.
 abbrev pub TakesDraws : Option (List Draw × Draw) → List ServedOne → Option (List Draw × Draw) → Type 0
 TakesDraws coming [] after = after ≡ coming
 TakesDraws coming (one ∷ ones) after =
@@ -67,7 +69,8 @@ TakesDraws coming (one ∷ ones) after =
 abbrev pub DrawsAtLeast : Option (List Draw × Draw) → List ServedOne → Option (List Draw × Draw) → Type 0
 DrawsAtLeast coming ones after = (middle : Option (List Draw × Draw)) × TakesDraws coming ones middle × TakesAtMostOne middle after
 
--- what is known of a desk: the number of publications when it last looked, the boards, and the fronts at which it looked
+-- What is known of a desk: `front`, the front of the board that it found at its last look; `board_at`, the board of each front, if the
+-- desk knows that board; and `fronts`, the fronts of the boards found at all its looks, or `None` if the looks are not observable.
 pub record KnownDesk : Type 0 where
   pub front : ℕ
   pub board_at : ℕ → Option Board
@@ -82,12 +85,13 @@ pub record DeskNotes : Type 0 where
   pub desk : KnownDesk
   pub noted : Noted
 
--- the facts of a desk, notes and a book as one value
+-- what is known of a desk, a list of notes, and a metrics book, as one value
 abbrev pub desk_notes : KnownDesk → List ServedOne → Book → DeskNotes
 desk_notes desk ones book = record { desk = desk; noted = noted ones book }
 
--- the desk looked once and answered from the board that it saw; its front and the draw were noted, and the report was added
--- to the book
+-- The desk looked once and answered the request from the board that it found. One note was appended, with that board's front and the
+-- draw. The answer's report, if it has one, was added to the metrics book; if the book had no room for the report, the reply is a 503
+-- and the book is unchanged. The desk's front did not fall, and the desk still knows each board that it knew before.
 pub record AnswersFromBoard (before : DeskNotes) (request : Request) (draw : Draw) (reply : Reply) (after : DeskNotes) : Type 0 where
   pub board : Board
   pub known : after.desk.board_at after.desk.front ≡ Some board
@@ -101,7 +105,8 @@ pub record AnswersFromBoard (before : DeskNotes) (request : Request) (draw : Dra
   pub keeps : Keeps before.desk.board_at after.desk.board_at
   pub entered : Enters before.desk.fronts (after.desk.front ∷ []) after.desk.fronts
 
--- memory ran out: nothing was noted or added to the book, and the desk looked at most once
+-- Memory ran out: nothing was noted or added to the book, and the desk looked at most once. The desk's front did not fall, and the
+-- desk still knows each board that it knew before.
 pub record AnswersNothing (before after : DeskNotes) : Type 0 where
   pub same : after.noted.ones ≡ before.noted.ones
   pub same_book : after.noted.book ≡ before.noted.book

@@ -21,8 +21,9 @@ pub(crate) struct DeskHandler<'a, D> {
     pub served: &'a mut Served,
 }
 
-/// Lets a desk answer each request, adds the answer's report to the metrics book, and notes the draw and the answer's
-/// front: the number of publications that led to the board the request was answered from.
+/// Lets a desk answer each request, and adds the answer's report to the metrics book. If the book has no room for the
+/// report, the reply is a 503. Notes the draw and the answer's front: the number of publications that led to the board
+/// from which the request was answered.
 pub(crate) struct ByDesk<'a, D>(PhantomData<&'a D>);
 
 impl<'a, D: Desk> RequestHandler for ByDesk<'a, D> {

@@ -32,6 +32,7 @@ impl Model for Served {
 
     ghost view = { λ served. served.notes.items };
 
+    // There is room for the notes of `MOST_REQUESTS` (1,000) requests, the limit of one connection.
     ghost invariant = { λ served. 1000 ≤ vec_capacity served.notes };
 }
 
@@ -55,7 +56,7 @@ impl Served {
         self.notes.len()
     }
 
-    /// The note at this index, from 0, or `None` if there are fewer notes.
+    /// Returns the note at the index `place`, counted from 0, or `None` if there is no note at that index.
     pub fn get(&self, place: usize) -> Option<&ServedOne>
         ensures { option_copied result ≡ slice_get self.now place }
     {
@@ -69,7 +70,7 @@ impl Served {
         self.notes.truncate(0);
     }
 
-    /// Appends a note. There is room for it.
+    /// Appends a note. The list must have fewer than `MOST_REQUESTS` (1,000) notes, so that there is room for one more.
     pub(crate) fn note(&mut self, one: ServedOne)
         requires { length self.old < MOST_REQUESTS }
         ensures { self.new ≡ self.old ++ one ∷ [] }
