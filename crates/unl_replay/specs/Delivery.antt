@@ -27,7 +27,7 @@ pub record Delivery : Type 0 where
   pub environment : List ℕ
   pub batch : Batch
 
--- a delivery of the batch that is read, to this environment
+-- a delivery to this environment of the batch that was read, or the refusal if reading it failed
 abbrev pub for_environment : List ℕ → LineReading Batch → LineReading Delivery
 for_environment environment reading = and_then reading (λ batch. Ok (record { environment = environment; batch = batch }))
 
@@ -40,14 +40,14 @@ batch_brought d line = and_then (environment_in d line) (λ environment.
 abbrev pub feed_brought : DeskState → Data → LineReading Delivery
 feed_brought d line = and_then (environment_in d line) (λ environment. for_environment environment (feed_in line))
 
--- the delivery of a line with this op; lines with other ops deliver nothing, which is an error here
+-- the delivery of a line with this op; ops other than `batch` and `feed` deliver nothing, which is an error here
 abbrev pub brought_by : DeskState → Data → List ℕ → LineReading Delivery
 brought_by d line op =
     if bytes_eq op (codes "tokens") then Err (Document (WrongKind field.Op))
     else (if bytes_eq op (codes "batch") then batch_brought d line
     else (if bytes_eq op (codes "feed") then feed_brought d line else Err (Document (WrongKind field.Op))))
 
--- the ask of a line with this op; a line with another op has none, which is an error here
+-- the ask of a line with this op; there is none for ops other than `ask`, which is an error here
 abbrev pub asked_by : Data → List ℕ → LineReading LineAsk
 asked_by line op =
     if bytes_eq op (codes "tokens") then Err (Document (WrongKind field.Op))
@@ -55,15 +55,15 @@ asked_by line op =
     else (if bytes_eq op (codes "feed") then Err (Document (WrongKind field.Op))
     else (if bytes_eq op (codes "ask") then documented (ask_of line) else Err (Document (WrongKind field.Op)))))
 
--- the reading of an object, by its op
+-- reads an object with `read`, which also takes the text at the object's key `op`; an object without such a text is refused
 abbrev pub by_op : {T : Type 0} → (Data → List ℕ → LineReading T) → Data → LineReading T
 by_op read line = and_then (documented (required any_text field.Op line)) (read line)
 
--- the reading of a line that holds an object
+-- reads the bytes of a line as `by_op` does; bytes that are not a JSON object are refused with `NotJson`
 abbrev pub by_object : {T : Type 0} → (Data → List ℕ → LineReading T) → List ℕ → LineReading T
 by_object read bytes = and_then (ok_or (object_in bytes) (Document NotJson)) (by_op read)
 
--- the delivery of a line
+-- the delivery of a line; `b` is the state before the line
 unfoldable pub brought : ReplayState → List ℕ → LineReading Delivery
 brought b bytes = by_object (brought_by b.desk) bytes
 
@@ -73,8 +73,9 @@ asked bytes = by_object asked_by bytes
 
 -- ---- all lines
 
--- The batch was sent from the line of histories of its environment. Such a line has, for each epoch, the list of events of the
--- environment. It is not an input line.
+-- The delivery's batch was sent from the line of histories of its environment, restricted to the projects that the recipient of
+-- the batches sees. A line of histories is not an input line: it has, for each of several rising epochs, the list of the
+-- environment's events.
 abbrev pub IsSentFromHistory : Histories → Delivery → Type 0
 IsSentFromHistory histories delivery = IsSent (histories.line delivery.environment) (histories.sees delivery.environment) delivery.batch
 
@@ -86,8 +87,9 @@ AllSent histories k b (line ∷ more) =
     IfOk (brought b line) (IsSentFromHistory histories)
     × IfOk (take_line line_answer k b line) (λ taken. AllSent histories (k + 1) taken.desk more)
 
--- The ask is answered from a board on which the version of each environment is a revision of its line of histories: the state after
--- the events of one epoch up to some number. What a token sees on this board is from one revision.
+-- The ask is answered from a board on which each version is a revision of its environment's line of histories, restricted to the
+-- projects that the recipient of the batches sees. A revision is the state after the events of one epoch up to some number. What a
+-- token sees on this board is from one revision.
 pub record AnswersFromHistories (histories : Histories) (k : ℕ) (b : ReplayState) (line : List ℕ) (ask : LineAsk) : Type 0 where
   pub answers : answer_read k b line ≡ Ok (put_ask k b ask)
   pub represented : AllRepresented histories b.desk.board.slots
@@ -100,8 +102,9 @@ AsksFromHistories histories k b (line ∷ more) =
     IfOk (asked line) (AnswersFromHistories histories k b line)
     × IfOk (take_line line_answer k b line) (λ taken. AsksFromHistories histories (k + 1) taken.desk more)
 
--- Suppose that there is one line of histories for each environment, and that the batches of all input lines were sent from these.
--- Then each ask among the input lines is answered from these histories. Batches may be lost, duplicated or out of order.
+-- Suppose that there is one valid line of histories for each environment (epochs rise, and event numbers never fall within an epoch),
+-- and that the batches of the input lines, up to the first that is refused, were sent from these. Then each ask among those input lines
+-- is answered from these histories. Batches may be lost, duplicated or out of order.
 abbrev pub DeliversRevisions : List ℕ → Type 0
 DeliversRevisions bytes =
     (histories : Histories) → AreLines histories → AllSent histories 1 empty_replay (lines bytes)

@@ -24,7 +24,7 @@ use Rattle.unl_replay.specs.Refusals.{LineReading, and_then, documented, refusin
 abbrev pub any_value : Field → Data → Reading Data
 any_value field value = Ok value
 
--- the batch of a line; `held` is the number of the environment's current version, and a batch without `after` follows it
+-- the batch of a line; `held` is the number of the environment's current version, if it has one, and a batch without `after` follows it
 abbrev pub batch_in : Option ℕ → Data → LineReading Batch
 batch_in held line = and_then (documented (required any_value field.Batch line)) (λ value. refusing refusal_for_batch (batch_of held value))
 
@@ -38,12 +38,12 @@ feed_in line = and_then (documented (required (object_of feed_of) field.Feed lin
 
 -- ---- asks
 
--- the method of this name: `GET` or `POST`
+-- the method of this name, `GET` or `POST`; the error `WrongKind` for any other name
 abbrev pub method_by : Field → List ℕ → Reading Method
 method_by field word =
     if bytes_eq word (codes "GET") then Ok Get else (if bytes_eq word (codes "POST") then Ok Post else Err (WrongKind field))
 
--- the method that a value names
+-- the method that a JSON value names; the error `WrongKind` for a value that is not a string
 unfoldable pub method : Field → Data → Reading Method
 method field value = do
   word ← ok_or (as_str value) (WrongKind field)
@@ -57,7 +57,7 @@ last_moment = 100000000000000
 abbrev pub bytes_or_none : Option (List ℕ) → List ℕ
 bytes_or_none o = unwrap_or o []
 
--- a request and the draw to answer it with
+-- parses an ask: a request, which never asks to close the connection, and the draw to answer it with; only the target is required
 unfoldable pub ask_of : Data → Reading LineAsk
 ask_of d = do
   target ← required any_text field.Target d

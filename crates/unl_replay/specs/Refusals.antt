@@ -32,7 +32,7 @@ refusal_for (document.DuplicateName field name) = Document (document.DuplicateNa
 refusal_for (document.NotWhole field) = Document (document.NotWhole field)
 refusal_for document.Memory = Memory
 
--- the refusal for a fault of a book
+-- the refusal for a fault of a token book
 abbrev pub refusal_for_book : BadBook → Refusal
 refusal_for_book book.NotJson = Book book.NotJson
 refusal_for_book (book.BadEntry place) = Book (book.BadEntry place)
@@ -47,7 +47,7 @@ refusal_for_batch (batch.HydrationNotFirst place) = Batch (batch.HydrationNotFir
 refusal_for_batch (batch.NotRising place) = Batch (batch.NotRising place)
 refusal_for_batch batch.Memory = Memory
 
--- maps the error of a reading
+-- the result with its error, if it is one, changed by `fault`
 abbrev pub refusing : {A E F : Type 0} → (E → F) → Result A E → Result A F
 refusing fault (Ok x) = Ok x
 refusing fault (Err e) = Err (fault e)
@@ -58,11 +58,11 @@ documented = refusing refusal_for
 
 -- ---- the text of a refusal
 
--- a word and a number
+-- a word and a number, separated by a space
 abbrev pub numbered : List ℕ → ℕ → List ℕ
 numbered word n = word ++ (codes " " ++ decimal n)
 
--- the text for a fault of a book
+-- the text for a fault of a token book
 abbrev pub book_text : BadBook → List ℕ
 book_text book.NotJson = codes "BadBook 1"
 book_text (book.BadEntry place) = numbered (codes "BadBook 2") place
@@ -86,7 +86,7 @@ refusal_text NoNumber = codes "NoNumber"
 refusal_text TooManyEnvironments = codes "TooManyEnvironments"
 refusal_text Memory = []
 
--- The printed cause is the text of the refusal. Out of memory, nothing is claimed.
+-- If a cause is printed, the refusal is not `Memory`, and the cause is the refusal's text. Out of memory, nothing is claimed.
 abbrev pub Causes : LineRefusal → Refusal → Type 0
 Causes (line.Cause text) refusal = (refusal ≢ Memory) × (text ≡ refusal_text refusal)
 Causes line.Memory refusal = ⊤

@@ -45,7 +45,7 @@ abbrev pub tokens_line : ℕ → ℕ → ℕ → List ℕ
 tokens_line k generation front =
     decimal k ++ (codes ": tokens generation " ++ (decimal generation ++ (codes " front " ++ (decimal front ++ codes "\n"))))
 
--- the number of a revision, preceded by its epoch and a dot unless the epoch is 0; a dash if there is none
+-- the number of a revision, preceded by its epoch and a dot unless the epoch is 0; a dash if there is no revision
 abbrev pub revision_text : Option Revision → List ℕ
 revision_text None = codes "-"
 revision_text (Some now) = with_epoch now.epoch (decimal now.number)
@@ -76,7 +76,7 @@ ask_line k front reply = ask_start k front reply.status (tag_or_dash reply.tag) 
 abbrev pub DeskEffect : Type 0
 DeskEffect = Taken DeskState
 
--- publishes a book, unless it is the current one
+-- the effect of a token book, which is published unless it equals the current one
 abbrev pub put_tokens : ℕ → List Token → DeskState → DeskEffect
 put_tokens k tokens d =
     if same_book tokens d.board.book then record { text = same_line k; desk = d }
@@ -115,12 +115,12 @@ after_verdict Held slot batch d = d
 abbrev pub effect_of_verdict : ℕ → ℕ → Batch → DeskState → Verdict → DeskEffect
 effect_of_verdict k slot batch d v = with_verdict_line k (word_of v) slot (after_verdict v slot batch d)
 
--- applies a batch to a slot; an error if there is no slot
+-- the effect of a batch on a slot; an error if there is no slot
 abbrev pub put_batch_at : ℕ → Batch → DeskState → Option ℕ → LineReading DeskEffect
 put_batch_at k batch d None = Err TooManyEnvironments
 put_batch_at k batch d (Some slot) = Ok (effect_of_verdict k slot batch d (verdict_of (place_of (installed_by d) slot) batch))
 
--- applies a batch to an environment; a new environment gets a slot even if the batch does not apply
+-- the effect of a batch on an environment; a new environment gets a slot, if there is room, even if the batch does not apply
 abbrev pub put_batch : ℕ → List ℕ → DeskState → Batch → LineReading DeskEffect
 put_batch k environment d batch =
     put_batch_at k batch (with_name environment d) (place_in environment (with_name environment d).board.slots)
@@ -159,11 +159,11 @@ leaving_book book (Err cause) = Err cause
 abbrev pub at_desk : DeskState → Taken Book → LineEffect
 at_desk d taken = record { text = taken.text; desk = record { desk = d; book = taken.desk } }
 
--- the line of an answer, and the metrics book after the answer's report is recorded
+-- the line of an answer, and the metrics book with the answer's report added; if the book has no room for it, the reply is a 503
 abbrev pub print_and_record : ℕ → ℕ → Book → Answer → Taken Book
 print_and_record k front book answer = record { text = ask_line k front (final_reply book answer); desk = final_book book answer }
 
--- the effect of an ask: its line, and the state after its report is recorded
+-- the effect of an ask: the line with its reply, and the state after the answer's report, if there is one, is added to the metrics book
 abbrev pub put_ask : ℕ → ReplayState → LineAsk → LineEffect
 put_ask k b ask = at_desk b.desk (print_and_record k b.desk.front b.book (answer_of b.desk.board ask.request ask.draw))
 
@@ -171,17 +171,17 @@ put_ask k b ask = at_desk b.desk (print_and_record k b.desk.front b.book (answer
 abbrev pub ask_of_line : ℕ → ReplayState → Data → LineReading LineEffect
 ask_of_line k b line = and_then (documented (ask_of line)) (λ ask. Ok (put_ask k b ask))
 
--- the line for a bulk report
+-- the line for the metrics of an environment; `body` is a bulk report (the environment's counts as JSON) or a dash
 abbrev pub metrics_line : ℕ → List ℕ → List ℕ
 metrics_line k body = decimal k ++ (codes ": metrics " ++ (body ++ codes "\n"))
 
--- prints a bulk report and acknowledges it; prints a dash if there is none
+-- prints a bulk report and removes its `count` keys from the metrics book; prints a dash if there is no report
 abbrev pub sent_bulk : ℕ → List ℕ → Book → Option (Data × ℕ) → Taken Book
 sent_bulk k environment book None = record { text = metrics_line k (codes "-"); desk = book }
 sent_bulk k environment book (Some (report, count)) =
     record { text = metrics_line k (compact_text report); desk = acknowledge environment count book }
 
--- prints the metrics of an environment
+-- prints the bulk report of an environment, or a dash, and removes what was printed from the metrics book
 abbrev pub put_metrics : ℕ → List ℕ → Book → Taken Book
 put_metrics k environment book = sent_bulk k environment book (bulk environment book)
 
@@ -190,7 +190,7 @@ abbrev pub metrics_of_line : ℕ → ReplayState → Data → LineReading LineEf
 metrics_of_line k b line =
     and_then (documented (required name field.Environment line)) (λ environment. Ok (at_desk b.desk (put_metrics k environment b.book)))
 
--- the effect of an object, by its op
+-- the effect of an object with this op; an op other than these five is refused
 abbrev pub answer_op : ℕ → ReplayState → Data → List ℕ → LineReading LineEffect
 answer_op k b line op =
     if bytes_eq op (codes "tokens") then leaving_book b.book (tokens_of_line k b.desk line)
@@ -203,7 +203,7 @@ answer_op k b line op =
 abbrev pub answer_object : ℕ → ReplayState → Data → LineReading LineEffect
 answer_object k b line = and_then (documented (required any_text field.Op line)) (answer_op k b line)
 
--- the effect of the bytes of a line
+-- the effect of the bytes of a line, which must be a JSON object
 unfoldable pub answer_read : ℕ → ReplayState → List ℕ → LineReading LineEffect
 answer_read k b bytes = and_then (ok_or (object_in bytes) (Document NotJson)) (answer_object k b)
 
@@ -213,7 +213,7 @@ line_answer k b bytes = refusing refusal_text (answer_read k b bytes)
 
 -- ---- all lines
 
--- no environments, no tokens, no publications, and no metrics
+-- the state before the first line: no environments, no tokens, no publications, and no metrics
 abbrev pub empty_replay : ReplayState
 empty_replay = record {
   desk = record { board = record { boot = 0; host = []; generation = 0; book = []; slots = [] }; places = []; front = 0 };

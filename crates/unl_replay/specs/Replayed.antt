@@ -50,8 +50,9 @@ AreReplayed k state (one ∷ more) = (one.number ≡ k) × (one.before ≡ state
 abbrev pub AllSentFrom : Histories → List ReplayedLine → Type 0
 AllSentFrom histories ones = AllByRecursion (λ one. IfOk (brought one.before one.line) (IsSentFromHistory histories)) ones
 
--- The printed text is the answer to the ask, from a board on which every version is a revision in the histories of its environment.
--- The features that a token sees on this board are those of one revision.
+-- The printed text is the answer to the ask, from a board on which every version is a revision in the histories of its environment,
+-- restricted to the projects that the recipient of the batches sees. The features that a token sees on this board are those of one
+-- revision.
 pub record AnswersRevision (histories : Histories) (one : ReplayedLine) (ask : LineAsk) : Type 0 where
   pub answers : put_ask one.number one.before ask ≡ record { text = one.text; desk = one.after }
   pub represented : AllRepresented histories one.before.desk.board.slots
@@ -61,8 +62,8 @@ pub record AnswersRevision (histories : Histories) (one : ReplayedLine) (ask : L
 abbrev pub AllAnswerRevisions : Histories → List ReplayedLine → Type 0
 AllAnswerRevisions histories ones = AllByRecursion (λ one. IfOk (asked one.line) (AnswersRevision histories one)) ones
 
--- If every batch or feed in the lines was sent from the same valid histories, each ask among the lines is answered from these
--- histories. Batches may be lost, duplicated or out of order.
+-- If every batch or feed in the lines was sent from the same valid histories (epochs rise, and event numbers never fall within an
+-- epoch), each ask among the lines is answered from these histories. Batches may be lost, duplicated or out of order.
 abbrev pub LinesDeliverRevisions : List ReplayedLine → Type 0
 LinesDeliverRevisions ones = (histories : Histories) → AreLines histories → AllSentFrom histories ones → AllAnswerRevisions histories ones
 
@@ -72,17 +73,18 @@ LinesDeliverRevisions ones = (histories : Histories) → AreLines histories → 
 abbrev pub version_in : List ℕ → ReplayState → Option EnvVersion
 version_in environment state = snapshot_in environment state.desk.board.slots
 
--- No line replaces the version of an environment by an older one: its epoch never falls, and its number never falls within an
--- epoch. This holds for any batches.
+-- No line removes the version of an environment or replaces it by an older one: the version's epoch never falls, and its number never
+-- falls within an epoch. This holds for any batches.
 abbrev pub VersionsNeverFall : List ReplayedLine → Type 0
 VersionsNeverFall ones = (environment : List ℕ)
     → AllByRecursion (λ one. IsNotBelow (version_in environment one.before) (version_in environment one.after)) ones
 
 -- ---- the whole replay
 
--- The text that was sent, by the result. `Ok`: the text of all lines. `Bad`: the text of the lines before a refused one, and
--- the cause. `ReadFault`: the text of the lines with a line feed. `WriteFault`: a prefix of the text. `Memory`: the text of the
--- first lines.
+-- The text that was sent, by the result. `bytes` were read, and `ones` are the lines that were answered. `Ok`: the text of all lines.
+-- `Bad`: the text of the answered lines, and the report of a refused line. `ReadFault`: the text of the lines that end with a line feed.
+-- `WriteFault`: a prefix of the text of the answered lines and the report of a refused line, if there is one. `Memory`: the text of the
+-- answered lines.
 abbrev pub SendsAnswers : Result (Unit {0}) LinesFault → List ℕ → List ReplayedLine → Option (List ℕ) → Option (List ℕ) → Type 0
 SendsAnswers (Ok u) bytes ones old new = (bytes_of ones ≡ lines bytes) × Sends old (text_of ones) new
 SendsAnswers (Err Bad) bytes ones old new = (k : ℕ) × (cause : List ℕ) × Sends old (text_of ones ++ refused_text k cause) new
@@ -90,8 +92,9 @@ SendsAnswers (Err ReadFault) bytes ones old new = (bytes_of ones ≡ ended_lines
 SendsAnswers (Err WriteFault) bytes ones old new = (ending : Ending) × SendsPrefix old (text_of ones ++ ending_text ending) new
 SendsAnswers (Err Memory) bytes ones old new = Sends old (text_of ones) new
 
--- The first lines of these bytes were answered, one after another, and their text was sent. Each ask among them is answered from one
--- revision, and the revision of an environment never decreases.
+-- The first lines of these bytes were answered, one after another, and their text was sent as `SendsAnswers` says. If the batches of
+-- these lines were sent from the same valid histories, each ask among the lines is answered from these histories. The version of an
+-- environment is never replaced by an older one.
 pub record AnswersLines (bytes : List ℕ) (end : Result (Unit {0}) LinesFault) (old new : Option (List ℕ)) : Type 0 where
   pub ones : List ReplayedLine
   pub first : bytes_of ones ≡ take (length ones) (lines bytes)
@@ -100,9 +103,9 @@ pub record AnswersLines (bytes : List ℕ) (end : Result (Unit {0}) LinesFault) 
   pub revisions : LinesDeliverRevisions ones
   pub rising : VersionsNeverFall ones
 
--- The effect of a replay, by its result. `left` and `left_after` are the bytes still to be read before and after, and `old` and
--- `new` are the bytes sent before and after. `takes` states the effect of each line, and `answered` lists the lines that were
--- answered.
+-- The effect of a replay, by its result `end`. `left` and `left_after` are the bytes still to be read before and after, and `old` and
+-- `new` are the bytes sent before and after; each is `None` if it is not observable. `takes` states the text that was sent, by the
+-- specification of each line. `read` are bytes that were read, and `answered` lists the lines in them that were answered.
 pub record Replays (end : Result (Unit {0}) LinesFault) (left left_after old new : Option (List ℕ)) : Type 0 where
   pub takes : TakesLines line_answer empty_replay end left left_after old new
   pub read : List ℕ

@@ -85,8 +85,8 @@ fn bytes_or_none(alloc: Global, text: Option<Text>) -> Bytes
 }
 
 /// Parses the JSON object of an ask. Only the target is required. The defaults are the method `GET`, the time 0, the
-/// random word 0, an empty body, and no token, no tag and no version of the specification. The error is the first
-/// fault, or out of memory.
+/// random word 0, an empty body, and no token, no tag and no version of the client specification. The error is the
+/// first fault, or out of memory.
 #[tactic(auto, unfolding(crate::specs::Forms::ask_of))]
 pub fn ask_of(alloc: Global, object: &Value) -> Result<LineAsk, BadDocument>
     ensures { Gives result (ask_of (view object.now)) }

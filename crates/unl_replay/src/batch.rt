@@ -44,8 +44,8 @@ pub fn feed_in(alloc: Global, line: &Value) -> Result<Batch, Refusal>
     as_batch(alloc, feed)
 }
 
-/// Converts a feed to a batch with one hydration, which replaces the state of the environment. Returns `NoNumber` if
-/// the feed has no number.
+/// Converts a feed to a batch with one hydration, which replaces the state of the environment. The error is `NoNumber`
+/// if the feed has no number, or `Memory`: out of memory.
 fn as_batch(alloc: Global, feed: Feed) -> Result<Batch, Refusal>
     requires { IsValidState feed.state }
     ensures gives { Gives Memory result (as_batch feed) }

@@ -12,5 +12,5 @@ mod replaying;
 mod step;
 
 pub use replaying::replay;
-/// Why a replay ended before the end of its input.
+/// Why a replay failed: a line was refused, the source or the sink failed, or memory ran out.
 pub use unl_input::LinesFault as ReplayFault;

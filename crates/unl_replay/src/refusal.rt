@@ -111,8 +111,9 @@ impl Refusal {
     }
 }
 
-/// Returns the text of a fault of a book: `BadBook`, the number of the fault's kind, and the position of the bad entry
-/// or the count of tokens.
+/// Returns the text of a fault of a token book: `BadBook`, the number of the fault's kind, and, unless the fault is
+/// `NotJson`, the position of the bad entry or the count of tokens. The text is empty for `Memory`. The only error is
+/// out of memory.
 fn book_text(alloc: Global, fault: &BadBook) -> Result<String, Memory>
     ensures { IfOk result (λ s. string_bytes s ≡ book_text fault.now) }
 {
@@ -124,8 +125,8 @@ fn book_text(alloc: Global, fault: &BadBook) -> Result<String, Memory>
     }
 }
 
-/// Returns the text of a fault of a batch: `BadBatch`, the number of the fault's kind, and the position of the bad
-/// event.
+/// Returns the text of a fault of a batch: `BadBatch`, the number of the fault's kind, and, unless the fault is
+/// `NotJson`, the position of the bad event. The text is empty for `Memory`. The only error is out of memory.
 fn batch_text(alloc: Global, fault: &BadBatch) -> Result<String, Memory>
     ensures { IfOk result (λ s. string_bytes s ≡ batch_text fault.now) }
 {

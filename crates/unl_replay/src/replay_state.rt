@@ -1,4 +1,5 @@
-//! Processes one line of a replay, with the state that the earlier lines left: the desk and the metrics book.
+//! Processes one line of a replay, with the state that the earlier lines left: the desk and the metrics book. The
+//! parameter `number` is the number of the line.
 ghost use Rattle.std.specs.Prelude.{◌≡◌, ◌+◌, ◌-◌, ◌^◌, ◌<◌, ◌≤◌, Ok, IfOk, IfSome, string_bytes};
 ghost use Rattle.serde_json.specs.View.{view};
 ghost use Rattle.unl_metrics.specs.Reports.{IsReport};
@@ -77,7 +78,8 @@ fn ask_of_line(
     put_ask(alloc, replay_state, number, &ask)
 }
 
-/// Answers an ask and returns its line. Records the report of the answer in the metrics book.
+/// Answers an ask and returns its line. Adds the report of the answer to the metrics book. If the book has no room for
+/// the report, the reply in the line is a 503.
 fn put_ask(
     alloc: Global,
     replay_state: &mut ReplayState,
@@ -91,7 +93,8 @@ fn put_ask(
     print_and_record(alloc, &mut replay_state.book, number, front, answer)
 }
 
-/// Returns the line of an answer and records the answer's report in the metrics book.
+/// Returns the line of an answer and adds the answer's report to the metrics book. If the book has no room for the
+/// report, the reply in the line is a 503. `front` is the number of changes published so far.
 fn print_and_record(
     alloc: Global,
     book: &mut MetricsBook,
@@ -121,8 +124,8 @@ fn metrics_of_line(
     put_metrics(alloc, &mut replay_state.book, number, environment.as_str())
 }
 
-/// Returns the line with the bulk report of an environment and acknowledges the report, or a line with a dash if there
-/// is none.
+/// Returns the line with the bulk report of an environment (its counts as JSON, those that fit into 1,048,576 bytes), and
+/// removes the reported counts from the metrics book. Returns a line with a dash if the environment has no counts.
 fn put_metrics(
     alloc: Global,
     book: &mut MetricsBook,
@@ -142,7 +145,7 @@ fn put_metrics(
     }
 }
 
-/// Returns the line with the metrics of an environment.
+/// Returns the line with the metrics of an environment. `body` is the text of its bulk report, or a dash.
 fn metrics_line(alloc: Global, number: u64, body: &str) -> Result<String, AllocError>
     ensures { IfOk result (λ s. string_bytes s ≡ metrics_line number body.now) }
 {

@@ -23,7 +23,8 @@ impl LineProcessor for Answers {
 
     ghost line_result = { line_answer };
 
-    // The front counts the published changes, and each earlier line published at most one.
+    // `k` is the number of the next line. The front counts the published changes, and each line before line `k`
+    // published at most one.
     ghost fits = { λ k replay_state. replay_state.desk.front < k };
 
     #[tactic(auto, using(crate::proofs::RefusalLemmas::refused_line))]
@@ -63,15 +64,17 @@ pub fn replay<S: Source, K: Sink>(
     source: &mut S,
     sink: &mut K,
 ) -> Result<(), LinesFault>
-    // States what is read and sent, for each result. It also holds for the input lines that were answered:
+    // Clause `replays` states what is read and sent, for each result. It also states the following about the input
+    // lines that were answered:
     // - From one input line to the next, the version of an environment is never replaced by an older one, even if
-    //   batches are lost, duplicated or out of order. Its epoch never falls, and its number never falls in an epoch.
+    //   batches are lost, duplicated or out of order. The version's epoch never falls, and the version's number never
+    //   falls within an epoch.
     // - Assume that all batches and feeds of each environment were sent from one line of histories (one history of
-    //   events for each epoch). Then each request is answered from one revision of its environment, restricted to the
-    //   projects that both the recipient and the token see.
+    //   events for each epoch). Then each request is answered from one revision of its token's environment, restricted
+    //   to the projects that both the recipient of the batches and the request's token see.
     ensures replays { Replays result (S.left source.old) (S.left source.new) (K.sent sink.old) (K.sent sink.new) }
 
-    // `ReadFault` and `WriteFault` are returned only if the source or the sink failed.
+    // `ReadFault` is returned only if the source failed, and `WriteFault` only if the sink failed.
     ensures read { IsErrOf result LinesFault.ReadFault → Rose (S.faults source.old) (S.faults source.new) }
     ensures write { IsErrOf result LinesFault.WriteFault → Rose (K.faults sink.old) (K.faults sink.new) }
     ensures source_later { S.faults source.old ≤ S.faults source.new }

@@ -1,6 +1,6 @@
-//! Processes lines with tokens, batches and feeds. They change the desk, which has the current board: the tokens, and
-//! the version of each environment in its slot. In the functions that return a printed line, `number` is the number of
-//! the line.
+//! Processes lines with tokens, batches and feeds. These lines change the desk, which has the current board: the
+//! tokens, and the version of each environment in its slot. In the functions that return a printed line, `number` is
+//! the number of the input line.
 ghost use Rattle.std.specs.Prelude.{◌≡◌, ◌+◌, ◌-◌, ◌^◌, ◌<◌, ◌≤◌, Ok, IfOk, string_bytes, length, decimal};
 ghost use Rattle.serde_json.specs.View.{view};
 ghost use Rattle.unl_core.specs.DeskStates.{installed_by};
@@ -65,7 +65,8 @@ fn same_line(alloc: Global, number: u64) -> Result<String, AllocError>
     format!(in alloc; "{number}: same\n")
 }
 
-/// Returns the line for a book of tokens that is published. `front` is the number of changes published so far.
+/// Returns the line for a book of tokens that is published. `generation` is the number of books and `front` the number
+/// of changes that were published so far, including this book.
 fn tokens_line(
     alloc: Global,
     number: u64,
@@ -91,7 +92,8 @@ fn verdict_line(
     format!(in alloc; "{number}: {word} number {version} front {front}\n")
 }
 
-/// Publishes a book of tokens unless it is the current one, and returns the line that reports this.
+/// Publishes a book of tokens unless it equals the current one, and returns the line that says whether it was
+/// published.
 #[tactic(auto, using(crate::proofs::Books::kept, crate::proofs::Books::taken))]
 fn put_tokens(
     alloc: Global,
@@ -111,7 +113,8 @@ fn put_tokens(
     }
 }
 
-/// Returns the line that reports the verdict on a batch. `word` is the name of the verdict.
+/// Returns the line that reports the verdict on a batch for a slot. `word` is the name of the verdict, and `desk` is
+/// the desk after the batch.
 fn with_verdict_line(
     alloc: Global,
     desk: &OneDesk,
@@ -126,7 +129,8 @@ fn with_verdict_line(
     Ok(verdict_line(alloc, number, word, version.as_str(), desk.front())?.into_bytes())
 }
 
-/// Decides whether a batch applies to a slot, applies it if so, and returns the line that reports the verdict.
+/// Judges a batch for a slot, and returns the line that reports the verdict. At the verdict Apply the batch is applied
+/// and published, at Gap the slot is held, and at every other verdict the desk is unchanged.
 #[tactic(auto, using(crate::proofs::VerdictLines::line_of_verdict))]
 fn apply_to_slot(
     alloc: Global,
@@ -159,7 +163,8 @@ fn word_of(verdict: Verdict) -> &'static str
     }
 }
 
-/// Applies a batch to an environment. A new environment gets a slot even if the batch does not apply.
+/// Judges a batch for the slot of an environment, as `apply_to_slot` does. A new environment gets a slot even if the
+/// batch does not apply. Returns `TooManyEnvironments` if the environment is new and the board has no room for it.
 fn put_batch(
     alloc: Global,
     desk: &mut OneDesk,
@@ -178,7 +183,8 @@ fn put_batch(
     }
 }
 
-/// Processes a line with a book of tokens, which is published unless it is the current one.
+/// Processes a line with a book of tokens, which is published unless it equals the current one. Returns a refusal if
+/// the book can't be parsed.
 #[tactic(auto, using(crate::proofs::RefusalLemmas::refused_book))]
 pub(crate) fn tokens_of_line(
     alloc: Global,
@@ -194,8 +200,8 @@ pub(crate) fn tokens_of_line(
     put_tokens(alloc, desk, number, tokens)
 }
 
-/// Parses the environment of a line. Returns `TooManyEnvironments` if the environment is new and the board has no room
-/// for it.
+/// Parses the environment of a line. Returns `Document` if the line has no valid environment, and `TooManyEnvironments`
+/// if the environment is new and the board has no room for it.
 #[tactic(auto, using(crate::proofs::RefusalLemmas::refused))]
 fn environment_in(alloc: Global, desk: &OneDesk, line: &Value) -> Result<Text, Refusal>
     ensures { Gives Memory result (environment_in desk.now (view line.now)) }
@@ -208,7 +214,8 @@ fn environment_in(alloc: Global, desk: &OneDesk, line: &Value) -> Result<Text, R
     }
 }
 
-/// Processes a line with a batch. The parsed line is dropped before the batch is applied.
+/// Processes a line with a batch. The parsed line is dropped before the batch is applied. Returns a refusal if the
+/// environment or the batch can't be parsed, or if there is no room for a new environment.
 pub(crate) fn batch_of_line(
     alloc: Global,
     desk: &mut OneDesk,
@@ -226,7 +233,8 @@ pub(crate) fn batch_of_line(
     put_batch(alloc, desk, number, environment.as_str(), &batch)
 }
 
-/// Processes a line with a feed. The parsed line is dropped before the feed is applied.
+/// Processes a line with a feed. The parsed line is dropped before the feed is applied. Returns a refusal if the
+/// environment or the feed can't be parsed, if the feed has no number, or if there is no room for a new environment.
 pub(crate) fn feed_of_line(
     alloc: Global,
     desk: &mut OneDesk,
