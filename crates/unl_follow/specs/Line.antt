@@ -1,4 +1,5 @@
--- The text of the line that `follow` prints after each turn. In a turn, it polls the server once and then evaluates one feature.
+-- The text of the line that `follow` prints after each turn. In a turn, `follow` polls the server once and then evaluates one
+-- feature.
 use Rattle.std.specs.Prelude.{ℕ, ◌==◌, List, ◌++◌, codes, decimal, if◌then◌else◌, Option, Some, None, Result, Ok, Err}
 use Rattle.unl_delta.specs.declared.version.EnvVersion.{EnvVersion}
 use Rattle.unl_dependencies.specs.declared.evaluation.Evaluation.{Evaluation}
@@ -6,7 +7,7 @@ use Rattle.unl_refresh.specs.declared.outcome.Outcome.{Outcome}
 use Rattle.unl_refresh.specs.declared.outcome.Outcome.TheVariants.{Published, Unchanged, Repeat, Old, Gap, Held, Refused, BadAnswer}
 use Rattle.unl_follow.specs.declared.fault.ReplicaRefusal.{ReplicaRefusal}
 
--- the word for the outcome of a turn; `None` means that the connection to the server failed
+-- the word for the outcome of a turn; `None` means that connecting to the server, writing to it or reading from it failed
 abbrev pub word_of : Option Outcome → List ℕ
 word_of None = codes "fault"
 word_of (Some (Published front)) = codes "published"
@@ -27,13 +28,14 @@ abbrev pub number_text : Option EnvVersion → List ℕ
 number_text None = codes "-"
 number_text (Some version) = revision_text version.epoch version.number
 
--- whether the feature is on, or a dash if there is no version or no such feature
+-- whether the feature is on; a dash if there is no such feature (`Ok None`), or if the evaluation was refused because there is no
+-- version (`Err`)
 abbrev pub on_text : Result (Option Evaluation) ReplicaRefusal → List ℕ
 on_text (Ok (Some evaluation)) = if evaluation.on then codes "true" else codes "false"
 on_text (Ok None) = codes "-"
 on_text (Err refusal) = codes "-"
 
--- the line of turn `k`: the word for its outcome, the number of the version after it, and whether the feature is on
+-- the line of turn `k`: the word for its outcome, the number of the version after the turn, and whether the feature is on
 unfoldable pub line_of : ℕ → List ℕ → List ℕ → List ℕ → List ℕ
 line_of k word number on =
     codes "turn " ++ (decimal k ++ (codes " " ++ (word ++ (codes " number " ++ (number ++ (codes " on " ++ (on ++ codes "\n")))))))

@@ -1,5 +1,5 @@
 -- The turns of a run, their effect on the replica, and the lines that they print. In each turn the program sends one request to the
--- peer, applies the reply to its replica of the peer's state, and prints a line. In a list of turns the last turn comes first.
+-- peer, applies the reply to its replica of one environment, and prints a line. In a list of turns the last turn comes first.
 use Rattle.std.specs.Prelude.{◌≡◌, ℕ, ◌+◌, ◌⊎◌, Bool, List, [], ◌∷◌, ◌++◌, drop, length, Option, Some, None, option_map}
 use Rattle.unl_base.specs.declared.draws.Draw.{Draw}
 use Rattle.unl_base.specs.Doors.{next_of}
@@ -37,7 +37,8 @@ first_state = record { installed = installed_by new_replica; tag = None }
 abbrev pub turned_by : Refreshed → TurnEffect
 turned_by after = record { outcome = Some after.outcome; turn_state = record { installed = after.installed; tag = after.tag } }
 
--- the effect of a turn, by the reply or the fault; after a fault nothing is applied, and the next request has no tag
+-- the effect of a turn, by the reply or the fault; after a fault nothing is applied, and the next request has no tag. `delta` says
+-- whether deltas or whole feeds are requested
 unfoldable pub turned_to : Bool → TurnState → ReplyOrFault → TurnEffect
 turned_to delta before None = record { outcome = None; turn_state = record { installed = before.installed; tag = None } }
 turned_to delta before (Some reading) = turned_by (after_reading 0 delta before.tag before.installed reading)
@@ -70,13 +71,13 @@ follow_text delta subject (turn ∷ earlier) =
 
 -- ---- the replies, requests and draws of the turns
 
--- the reply on connection number `j`, counted from 0, if the replies are observable
+-- the reply on connection number `j`, counted from 0, if the replies are observable; no bytes after the last reply
 abbrev pub reply_at : Option (List (List ℕ)) → ℕ → Option (List ℕ)
 reply_at replies j = option_map (λ list. next_of (drop j list)) replies
 
 -- A turn received a reply or a fault. Before the turn, `i` replies were used up and there were `k` faults; after it, these
--- counts are `j` and `m`. A reply is the next one of the list, and is used up. A fault adds one to the faults, and may have used up
--- a reply.
+-- counts are `j` and `m`. A reply was parsed from the next one of the list (if the list is observable), which is used up. A fault
+-- adds one to the faults, and may have used up a reply.
 abbrev pub IsReceived : Option (List (List ℕ)) → ReplyOrFault → ℕ → ℕ → ℕ → ℕ → Type 0
 IsReceived replies (Some reading) i k j m = IsParsedFrom (reply_at replies i) reading × (j ≡ i + 1) × (m ≡ k)
 IsReceived replies None i k j m = ((j ≡ i) ⊎ (j ≡ i + 1)) × (m ≡ k + 1)
@@ -87,7 +88,7 @@ HaveTurned replies [] j m = (j ≡ 0) × (m ≡ 0)
 HaveTurned replies (turn ∷ earlier) j m =
     (i : ℕ) × (k : ℕ) × HaveTurned replies earlier i k × IsReceived replies turn.received i k j m
 
--- the request of a turn: for the ask's host, token and mode, with the tag before the turn
+-- the request of a turn: for the ask's host and token, for a delta or a whole feed as `ask.delta` says, with the tag before the turn
 abbrev pub request_at : Ask → TurnState → List ℕ
 request_at ask turn_state = refresh_request ask.delta ask.host ask.token turn_state.tag
 

@@ -27,7 +27,7 @@ impl From<documents::Memory> for ReplicaRefusal {
     }
 }
 
-/// Why a run of `follow` ended before the line of its last turn was written in full.
+/// Why a run of `follow` ended before all lines of its turns were written.
 #[derive(Clone, Copy, Debug, PartialEq, Eq, Error)]
 pub enum FollowFault {
     /// The sink failed and incremented its fault count.

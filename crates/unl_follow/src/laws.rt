@@ -11,8 +11,8 @@ use unl_delta::laws;
 
 /// A first replica is sent batches from the histories of one environment (a line, with one history for each epoch). A
 /// second replica applies the answers of the first, which may be filtered by project, dropped, duplicated and
-/// reordered. If the second has a version, its state is one revision of that line, filtered by the projects that both
-/// see. Its epoch and number never decrease.
+/// reordered. If the second has a version, the state of this version is one revision of that line, filtered by the
+/// projects that both replicas see. The version's epoch never decreases, nor does the version's number within an epoch.
 pub fn two_hops()
     ensures state { (line : List Era) (sees projects : Sees) (batches answers : List Batch) → IsLine line
         → AllByRecursion (IsSent line sees) batches → AllByRecursion (IsAnswerAfter batches projects) answers

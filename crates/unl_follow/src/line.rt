@@ -65,6 +65,7 @@ fn word(alloc: Global, outcome: &Option<Outcome>) -> Result<String, AllocError>
     }
 }
 
+/// Returns the word for a request that the server refused with this HTTP status.
 fn refused(alloc: Global, status: u16) -> Result<String, AllocError>
     ensures { IfOk result (λ word. string_bytes word ≡ codes "refused " ++ decimal status) }
 {
@@ -81,6 +82,7 @@ fn number_text(alloc: Global, version: Option<&EnvVersion>) -> Result<String, Al
     }
 }
 
+/// Returns the number, preceded by the epoch and a dot unless the epoch is 0.
 fn revision_text(alloc: Global, epoch: u64, number: u64) -> Result<String, AllocError>
     ensures { IfOk result (λ text. string_bytes text ≡ revision_text epoch number) }
 {
@@ -90,7 +92,7 @@ fn revision_text(alloc: Global, epoch: u64, number: u64) -> Result<String, Alloc
     format!(in alloc; "{epoch}.{number}")
 }
 
-/// Returns whether the feature is on as a word, or a dash if there is no version or no such feature.
+/// Returns the word for whether the feature is on, or a dash if there is no version or no such feature.
 fn on_word(
     alloc: Global,
     replica: &Replica,

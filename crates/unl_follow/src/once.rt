@@ -10,11 +10,13 @@ use std::alloc::Global;
 use unl_base::Peer;
 use unl_refresh::{Ask, Outcome, RefreshFault, refresh_once};
 
-/// Makes one request for the changes since the last reply, or for the whole feed, and applies the reply to the replica,
-/// as `refresh_once` does for a slot.
+/// Makes one request, for a delta or for a whole feed as `ask.delta` says, and judges the reply for the replica. A
+/// reply that applies is published, after a gap the replica's slot is held, and otherwise the replica is unchanged. The
+/// tag of the ask becomes the tag of the next request.
 ///
 /// # Errors
-/// `PeerFault` if the peer can't be connected to, written to or read; `Memory` if out of memory. Nothing is applied then.
+/// `PeerFault` if the peer can't be connected to, written to or read; `Memory` if out of memory. On both errors nothing
+/// is applied, and the ask has no tag.
 pub fn follow_once<P: Peer>(
     alloc: Global,
     replica: &mut Replica,
@@ -26,7 +28,8 @@ pub fn follow_once<P: Peer>(
     requires token { IsTrue (fits_line ask.old.token) }
     requires tag { IsTrue (fits_if_any ask.old.tag) }
 
-    // Determines which version the replica has afterwards, which tag the next request has, and which bytes are sent.
+    // Clause `leaves` states which version the replica has afterwards, which tag the next request has, and which bytes
+    // are sent.
     ensures leaves { RefreshedOnce 0
         (refresh_state (installed_by replica.old) ask.old
         (peer_view (P.state peer.old) (P.Source.faults peer.old)))
@@ -34,7 +37,8 @@ pub fn follow_once<P: Peer>(
         (refresh_state (installed_by replica.new) ask.new
         (peer_view (P.state peer.new) (P.Source.faults peer.new))) }
 
-    // The result depends only on the next reply of the peer, which is used up.
+    // If the peer's replies are observable, the next of them determines the outcome. This reply is used up, except
+    // that it may remain if the peer failed or memory ran out.
     ensures next_reply { TakesNextReply 0
         (refresh_state (installed_by replica.old) ask.old
         (peer_view (P.state peer.old) (P.Source.faults peer.old)))
@@ -42,9 +46,10 @@ pub fn follow_once<P: Peer>(
         (refresh_state (installed_by replica.new) ask.new
         (peer_view (P.state peer.new) (P.Source.faults peer.new))) }
 
-    // A line is a list of event histories, one for each epoch, in rising order of epochs. If the replica's version is a
-    // revision of a line and the server sends batches from that line, the version afterwards is a revision of it too.
-    // The epoch and the number of the version don't fall.
+    // A line is a list of event histories, one for each epoch, in rising order of epochs. Assume that the replica has
+    // no version, or a revision of a line restricted to some projects, and that the server sends batches from that line
+    // restricted in the same way. Then the same is true of the replica afterwards. The epoch of the version doesn't
+    // fall, nor does the version's number within an epoch.
     ensures delivery { Delivers 0
         (refresh_state (installed_by replica.old) ask.old
         (peer_view (P.state peer.old) (P.Source.faults peer.old)))

@@ -40,10 +40,10 @@ pub fn follow<P: Peer, R: Draws, T: Pace, K: Sink>(
     requires host { IsTrue (fits_line ask.host) }
     requires token { IsTrue (fits_line ask.token) }
     requires new { ask.tag ≡ None }
-    // The number of turns is the smaller of `turns` and the number that the pace allows. The turns take the upcoming
-    // draws and replies in order. Each turn with a reply sent the ask's request, with the current tag, on a new
-    // connection. The lines of the turns were sent: all of them on success, a prefix of their text if a write failed,
-    // whole lines if out of memory.
+    // On success, the number of turns is the smaller of `turns` and the number that the pace allows. Unless memory ran
+    // out, the turns took the upcoming draws and replies in order, and each turn with a reply sent the ask's request,
+    // with the current tag, on a new connection. The lines of the turns were sent: all of them on success, a prefix of
+    // their text if a write failed, whole lines if out of memory.
     ensures runs { Runs turns (T.turns pace.old) ask subject.now
         (record {
           peer = P.state peer.old;

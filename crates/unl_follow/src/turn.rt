@@ -1,4 +1,5 @@
-//! One turn of a run: a request, and the line that reports its outcome.
+//! One turn of the command `follow`: it sends a request to a server, applies the reply to the replica (the newest version
+//! that the server sent), and writes a line.
 ghost use Rattle.std.specs.Prelude.{◌≡◌, ℕ, ◌<◌, ◌≤◌, ◌+◌, ◌-◌, ◌^◌, List, Option, Err, IfOk, IsTrue, OnOk, string_bytes};
 ghost use Rattle.unl_base.specs.Faults.{Rose};
 ghost use Rattle.unl_base.specs.Streams.{Sends, SendsPrefix};
@@ -19,7 +20,13 @@ use unl_documents::Memory;
 use unl_refresh::{Ask, Outcome, RefreshFault};
 use unl_strategies::Moment;
 
-/// Makes one turn: takes one draw, makes one request, and writes the line of the turn to the sink.
+/// Makes turn `number`: takes one draw, sends one request to the peer, applies the reply to the replica, and writes the
+/// line of the turn to the sink. The request carries the tag of `ask`, if there is one. Afterwards `ask` has the tag for
+/// the next request, if there is one. A peer that fails is not an error: nothing is applied, the next request has no tag,
+/// and the line says `fault`.
+///
+/// # Errors
+/// `WriteFault` if the sink fails: a prefix of the line was written. `Memory` if out of memory: nothing was written.
 pub(crate) fn turn<P: Peer, R: Draws, K: Sink>(
     alloc: Global,
     number: u32,
@@ -78,7 +85,8 @@ pub(crate) fn turn<P: Peer, R: Draws, K: Sink>(
     Ok(())
 }
 
-/// Makes one request. Returns `None` if the peer failed. The only error is out of memory.
+/// Sends one request to the peer, applies the reply to the replica, and returns the outcome. Returns `Ok(None)` if the
+/// peer failed. Afterwards `ask` has the tag for the next request, if there is one. The only error is out of memory.
 fn ask_once<P: Peer>(
     alloc: Global,
     replica: &mut Replica,
@@ -105,7 +113,8 @@ fn ask_once<P: Peer>(
     }
 }
 
-/// Returns the line of a turn, with the feature evaluated at the time and with the random word of this draw.
+/// Returns the line of turn `number`, which had this outcome. The line says whether the subject's feature is on in the
+/// replica's version, for the subject's context, at the time and with the random word of this draw.
 #[tactic(auto, unfolding(crate::specs::Turns::turn_line))]
 fn line_of_turn(
     alloc: Global,
