@@ -1,5 +1,6 @@
--- The input of a load (chosen by this project): 1,000 features, generated from one random word each, and then `count` asks
--- (evaluations), generated from two random words each.
+-- The input of the command `load`, as this project defines it: 1,000 features, each generated from one random word, and then
+-- `count` asks, each generated from two random words. An ask is one evaluation of a feature for a user. Where a definition has
+-- an argument `words`, it is the random number generator from which the next words are taken.
 use Rattle.std.specs.Prelude.{ℕ, zero, suc, ◌+◌, ◌/◌, ◌%◌, List, [], ◌∷◌, ◌++◌, codes, decimal, Bool, true, false, Some, None}
 use Rattle.std.specs.Option.{option_map_or}
 use Rattle.rand_pcg.specs.Lcg.{Lcg}
@@ -18,7 +19,7 @@ use Rattle.unl_load.specs.Words.{behind, next_word, generator, next}
 abbrev pub digit : ℕ → ℕ
 digit number = 48 + number % 10
 
--- the name of the feature with this index: `f` and the index in four digits
+-- the name of the feature with this index: `f` and the last four decimal digits of the index, with leading zeros
 unfoldable pub name_of : ℕ → List ℕ
 name_of place = codes "f" ++ digit (place / 1000) ∷ digit (place / 100) ∷ digit (place / 10) ∷ digit place ∷ []
 
@@ -26,7 +27,7 @@ name_of place = codes "f" ++ digit (place / 1000) ∷ digit (place / 100) ∷ di
 abbrev pub pair : List ℕ → List ℕ → Pair
 pair key value = record { key = key; value = value }
 
--- the strategy of a feature, with this rollout percentage
+-- the `flexibleRollout` strategy of the feature with this name, for this rollout percentage
 unfoldable pub generated_strategy : List ℕ → ℕ → Strategy
 generated_strategy name rollout = record {
   name = codes "flexibleRollout";
@@ -76,7 +77,7 @@ unfoldable pub asks : ℕ → Lcg → List LoadAsk
 asks zero words = []
 asks (suc n) words = ask_by words ∷ asks n (next (next words))
 
--- the context of the user with this number
+-- the context of the user with this number: its `userId` is the number in decimal, and it has nothing else
 unfoldable pub user_context : ℕ → Fields
 user_context user = record nothing { user_id = Some (decimal user) }
 
@@ -84,16 +85,16 @@ user_context user = record nothing { user_id = Some (decimal user) }
 abbrev pub beginning : Moment
 beginning = record { now = 0; word = 0; host = [] }
 
--- the feature of the ask is on for its user
+-- the state has the feature of the ask, and the feature is on for the user of the ask
 unfoldable pub is_on_for : State → LoadAsk → Bool
 is_on_for state ask = option_map_or (λ e. e.on) (evaluation_of state (name_of ask.feature) (user_context ask.user) beginning) false
 
--- ---- both, from a seed
+-- ---- the features and the asks, from a seed
 
 -- the state with the features that are generated from a seed
 abbrev pub generated_state : ℕ → State
 generated_state seed = state_by (generator seed)
 
--- the asks that are generated from a seed; their words follow the 1,000 words of the features
+-- the `count` asks that are generated from a seed; the words of the asks follow the 1,000 words of the features
 abbrev pub asks_of : ℕ → ℕ → List LoadAsk
 asks_of seed count = asks count (behind 1000 (generator seed))

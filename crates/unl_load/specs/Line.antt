@@ -9,10 +9,10 @@ line_of count on =
     codes "features 1000 asks "
     ++ (decimal count ++ (codes " on " ++ (decimal on ++ (codes " off " ++ (decimal (count - on) ++ codes "\n")))))
 
--- the number of asks whose feature is on, of the `count` asks that are generated from a seed
+-- the number of asks whose feature is on for their user, among the `count` asks that are generated from a seed
 abbrev pub on_of : ℕ → ℕ → ℕ
 on_of seed count = count_by (is_on_for (generated_state seed)) (asks_of seed count)
 
--- the line written for `count` asks of a seed
+-- the line that is written for the `count` asks that are generated from a seed
 abbrev pub load_line : ℕ → ℕ → List ℕ
 load_line seed count = line_of count (on_of seed count)

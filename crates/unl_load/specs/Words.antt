@@ -1,4 +1,5 @@
--- The random words that a load is generated from: those of the generator PCG XSH RR 64/32 (O'Neill), in order.
+-- The random words that the input of the command `load` is generated from: the 32-bit words of the generator PCG XSH RR 64/32
+-- (O'Neill), in order.
 use Rattle.std.specs.Prelude.{ℕ, zero, suc}
 use Rattle.rand_pcg.specs.Lcg.{Lcg, started, increment_of}
 use Rattle.rand_pcg.specs.Pcg.{multiplier_64, pcg32}

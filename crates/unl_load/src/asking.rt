@@ -1,4 +1,4 @@
-//! The asks (evaluations) of a load: each evaluates one feature for one user.
+//! The asks (evaluations) of the command `load`: each evaluates one feature for one user.
 ghost use Rattle.std.specs.Prelude.{◌≡◌, ◌≤◌, ◌<◌, ◌+◌, ◌^◌, false, codes, IfOk, if◌then◌else◌};
 ghost use Rattle.std.specs.List.{count_by};
 ghost use Rattle.std.specs.Option.{option_map_or};
@@ -18,8 +18,8 @@ use unl_documents::Memory;
 use unl_strategies::Moment;
 use unl_tokens::Projects;
 
-/// Makes `count` asks. Takes two random words for each: for its feature and its user. Returns how many find their
-/// feature on.
+/// Makes `count` asks. Takes two random words for each ask: the first selects the feature, the second is the number of
+/// the user. Returns the number of asks whose feature is on.
 pub(crate) fn count_on(
     alloc: Global,
     snapshot: &Snapshot,
@@ -46,7 +46,8 @@ fn counted(count: u64, counts: bool) -> u64
     if counts { count + 1 } else { count }
 }
 
-/// Returns whether the feature with this index is on for the user with this number.
+/// Returns whether the feature with this index is on for the user with this number, at time 0 with random word 0.
+/// Returns `false` if the snapshot lacks the feature.
 #[tactic(auto, unfolding(crate::specs::Input::is_on_for))]
 fn is_on_for(alloc: Global, snapshot: &Snapshot, feature: u32, user: u32) -> Result<bool, Memory>
     ensures { IfOk result (λ on. on ≡ is_on_for snapshot.now.state (record { feature = feature; user = user })) }
@@ -72,7 +73,7 @@ fn found_on(found: &Option<Evaluation>) -> bool
     }
 }
 
-/// Returns the context of the user with this number.
+/// Returns the context whose `userId` is this number in decimal. The only error is out of memory.
 fn context(alloc: Global, user: u32) -> Result<Context, Memory>
     ensures { IfOk result (λ context. context ≡ user_context user) }
 {
@@ -84,7 +85,7 @@ fn context(alloc: Global, user: u32) -> Result<Context, Memory>
     }
 }
 
-/// Returns the context of a user in JSON.
+/// Returns the JSON object of a context whose `userId` is `user`.
 fn user_value(alloc: Global, user: &str) -> Result<Value, AllocError>
     ensures { IfOk result (λ value. view value ≡ object (member (codes "userId") (string user.now) no_members)) }
 {

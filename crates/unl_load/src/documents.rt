@@ -1,4 +1,4 @@
-//! Generates the features of a load, and builds the snapshot that is evaluated.
+//! Generates the features of the command `load`, and builds the snapshot in which they are evaluated.
 ghost use Rattle.std.specs.Prelude.{◌≡◌, ◌∷◌, [], None, IfOk, OnOk, decimal, string_bytes};
 ghost use Rattle.unl_delta.specs.Valid.{IsValidBatch};
 ghost use Rattle.unl_delta.specs.declared.event.Event.TheVariants.{Hydration};
@@ -16,7 +16,7 @@ use unl_documents::{ChunkedList, Feature, List, Memory, Pair, Shared, State, Str
 /// The number of features.
 pub(crate) const FEATURES: u32 = 1000;
 
-/// Generates the state of all features. Takes one random word for each feature.
+/// Generates a state with 1,000 features and no segments. Takes one random word for each feature.
 pub(crate) fn state(alloc: Global, words: &mut Lcg64Xsh32) -> Result<State, Memory>
     ensures made { IfOk result (λ state. state ≡ state_by words.old) }
     ensures valid { IfOk result IsValidState }
@@ -29,7 +29,7 @@ pub(crate) fn state(alloc: Global, words: &mut Lcg64Xsh32) -> Result<State, Memo
     })
 }
 
-/// Generates the features. Takes one random word for each.
+/// Generates the 1,000 features. Takes one random word for each feature.
 fn features(alloc: Global, words: &mut Lcg64Xsh32) -> Result<List<Shared<Feature>>, Memory>
     ensures made { IfOk result (λ features. features ≡ features_from 0 1000 words.old) }
     ensures taken { OnOk result (words.new ≡ behind 1000 words.old) }
@@ -64,7 +64,7 @@ fn feature(alloc: Global, place: u32, word: u32) -> Result<Feature, Memory>
     })
 }
 
-/// Returns the strategy of a feature, with this rollout percentage.
+/// Returns the `flexibleRollout` strategy of the feature with this name, for this rollout percentage.
 #[tactic(auto, unfolding(crate::specs::Input::generated_strategy))]
 fn strategy(alloc: Global, name: &str, rollout: u32) -> Result<Strategy, Memory>
     ensures { IfOk result (λ strategy. strategy ≡ generated_strategy name.now rollout) }
@@ -100,13 +100,15 @@ pub(crate) fn decimal_text(alloc: Global, number: u32) -> Result<String, AllocEr
     format!(in alloc; "{number}")
 }
 
-/// Returns the name of the feature with this index: `f` and the index in four digits.
+/// Returns the name of the feature with this index: `f` and the last four decimal digits of the index, with leading
+/// zeros.
 pub(crate) fn name(alloc: Global, place: u32) -> Result<Text, Memory>
     ensures { IfOk result (λ name. name ≡ name_of place) }
 {
     Ok(Text::from(name_of(alloc, place)?))
 }
 
+/// Returns the same name as [`name`], as a string.
 #[tactic(auto, unfolding(crate::specs::Input::name_of))]
 fn name_of(alloc: Global, place: u32) -> Result<String, AllocError>
     ensures { IfOk result (λ name. string_bytes name ≡ name_of place) }
@@ -118,7 +120,8 @@ fn name_of(alloc: Global, place: u32) -> Result<String, AllocError>
     format!(in alloc; "f{thousands}{hundreds}{tens}{ones}")
 }
 
-/// Applies a hydration (a whole state) with number 1 to an empty place, and returns the snapshot of the new version.
+/// Applies this state as a hydration (a whole state) with number 1 to a place that has no version and isn't held, and
+/// returns the snapshot of the new version.
 pub(crate) fn installed(alloc: Global, state: State) -> Result<Snapshot, Memory>
     requires { IsValidState state }
     ensures { IfOk result (λ snapshot. snapshot.state ≡ state) }
@@ -132,7 +135,7 @@ pub(crate) fn installed(alloc: Global, state: State) -> Result<Snapshot, Memory>
     Snapshot::build(alloc, version)
 }
 
-/// Returns a batch of one hydration with this state.
+/// Returns a batch of one hydration, which has this state and number 1. The epoch is 0.
 fn hydration(alloc: Global, state: State) -> Result<Batch, Memory>
     requires { IsValidState state }
     ensures valid { IfOk result IsValidBatch }

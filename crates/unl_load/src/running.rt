@@ -1,4 +1,4 @@
-//! Runs a load: from a seed to the line with its counts.
+//! Runs the command `load`: from a seed and a number of asks (evaluations) to the line that is written.
 ghost use Rattle.std.specs.Prelude.{◌≡◌, ◌≤◌, IfOk, IsErrOf, OnOk, string_bytes};
 ghost use Rattle.unl_base.specs.Faults.{Rose};
 ghost use Rattle.unl_base.specs.Streams.{Sends, SendsPrefix};
@@ -16,9 +16,9 @@ use unl_documents::Memory;
 /// writes one line: the number of features, the number of asks, and how many asks found their feature on and how many
 /// off. The command line allows a count of 1 to 1,000,000.
 ///
-/// The seed starts a random number generator. Its first 1,000 words make one feature each. Each ask then takes two
-/// words: for its feature and its user. It is evaluated at time 0 with random word 0. The same seed and count always
-/// give the same line.
+/// The seed starts a random number generator. The first 1,000 words of the generator make one feature each. Each ask
+/// then takes two words: one selects the feature, the other is the number of the user. The feature is evaluated at time 0
+/// with random word 0. The same seed and count always give the same line.
 ///
 /// # Errors
 /// `WriteFault` if the sink fails: a prefix of the line was written. `Memory` if out of memory: nothing was written.
@@ -36,7 +36,7 @@ pub fn load<K: Sink>(alloc: Global, seed: u64, count: u64, sink: &mut K) -> Resu
     }
 }
 
-/// Returns the line of a load with this seed and count.
+/// Returns the line that [`load`] writes for this seed and count.
 fn load_line(alloc: Global, seed: u64, count: u64) -> Result<String, Memory>
     ensures { IfOk result (λ line. string_bytes line ≡ load_line seed count) }
 {

@@ -1,11 +1,11 @@
-//! The random words that a load is generated from.
+//! The random words that the input of the command `load` is generated from.
 ghost use Rattle.std.specs.Prelude.{◌≡◌};
 ghost use Rattle.unl_load.specs.Words.{next_word, generator, next};
 
 use rand_pcg::Lcg64Xsh32;
 use rand_pcg::rand_core::utils::NextWord;
 
-/// Returns the generator for this seed, at stream 1. It is PCG XSH RR 64/32 (O'Neill).
+/// Returns the generator PCG XSH RR 64/32 (O'Neill) for this seed, at stream 1.
 #[tactic(auto, unfolding(crate::specs::Words::generator))]
 pub(crate) fn generator(seed: u64) -> Lcg64Xsh32
     ensures { result ≡ generator seed }
