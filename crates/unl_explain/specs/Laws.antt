@@ -1,4 +1,5 @@
--- Laws that relate the parts of an explanation to its evaluation.
+-- Laws on explanations. An explanation says why a feature is on or off: it has the feature's evaluation and the results for the
+-- parts of that evaluation. The laws relate these results to the evaluation.
 use Rattle.std.specs.Prelude.{◌≡◌, ℕ, List, All, IfSome, length, Bool, ◌&&◌, ◌||◌, ◌==◌, is_some, option_map}
 use Rattle.std.specs.List.{list_all}
 use Rattle.unl_documents.specs.declared.state.State.{State}
@@ -10,7 +11,7 @@ use Rattle.unl_explain.specs.declared.reason.SegmentReason.{SegmentReason}
 use Rattle.unl_explain.specs.declared.reason.StrategyReason.{StrategyReason}
 use Rattle.unl_explain.specs.Reasons.{reasons_of}
 
--- The explained evaluation is the feature's evaluation, and there is an explanation exactly if there is an evaluation.
+-- The evaluation in an explanation is the feature's evaluation, and there is an explanation exactly if there is an evaluation.
 abbrev pub EvaluationIsExplained : Type 0
 EvaluationIsExplained = (state : State) (name : List ℕ) (context : Fields) (moment : Moment)
     → option_map (λ r. r.evaluation) (reasons_of state name context moment) ≡ evaluation_of state name context moment
@@ -19,8 +20,8 @@ EvaluationIsExplained = (state : State) (name : List ℕ) (context : Fields) (mo
 abbrev pub all_true : List Bool → Bool
 all_true truths = list_all (λ b. b) truths
 
--- By its parts, the feature is on: it is enabled, each parent satisfies its dependency, and there is an active strategy or
--- there are no strategies.
+-- By the results in the explanation, the feature is on: it is enabled, each of its dependencies is met, and it has an active
+-- strategy or no strategies.
 abbrev pub is_on_by_parts : Reason → Bool
 is_on_by_parts r = r.enabled && (list_all (λ p. p.met) r.parents && (length r.strategies == 0 || is_some r.first))
 
@@ -28,17 +29,17 @@ is_on_by_parts r = r.enabled && (list_all (λ p. p.met) r.parents && (length r.s
 abbrev pub is_found_and_holds : SegmentReason → Bool
 is_found_and_holds s = s.found && all_true s.constraints
 
--- By its parts, the strategy is active: all of its constraints hold, each of its segments is found and holds, and its own
--- rule holds.
+-- By the results for a strategy, the strategy is active: all of its constraints hold, each of its segments is found and all
+-- constraints of that segment hold, and the strategy's own rule holds.
 abbrev pub is_active_by_parts : StrategyReason → Bool
 is_active_by_parts s = all_true s.constraints && (list_all is_found_and_holds s.segments && s.rule)
 
--- A feature is on exactly if it is on by its parts.
+-- In each explanation, the evaluation says that the feature is on exactly if the feature is on by the results in the explanation.
 abbrev pub OnIsExplained : Type 0
 OnIsExplained = (state : State) (name : List ℕ) (context : Fields) (moment : Moment)
     → IfSome (reasons_of state name context moment) (λ r. r.evaluation.on ≡ is_on_by_parts r)
 
--- Each strategy is active exactly if it is active by its parts.
+-- In each explanation, each strategy is active exactly if it is active by the results for the strategy.
 abbrev pub ActiveIsExplained : Type 0
 ActiveIsExplained = (state : State) (name : List ℕ) (context : Fields) (moment : Moment)
     → IfSome (reasons_of state name context moment) (λ r. All (λ s. s.active ≡ is_active_by_parts s) r.strategies)

@@ -1,4 +1,5 @@
--- The JSON form of an explanation, and its line.
+-- The JSON form of an explanation, and the line with that JSON. An explanation says why a feature is on or off. A parent is a
+-- feature that the explained feature depends on.
 use Rattle.std.specs.Prelude.{ℕ, List, ◌++◌, codes, Option, Some, None, option_map}
 use Rattle.std.specs.Option.{option_map_or}
 use Rattle.serde_json.specs.Data.{Data, boolean, no_members, null, object, put, string}
@@ -45,7 +46,7 @@ parent_variant cause.Absent = None
 parent_variant cause.HasParents = None
 parent_variant cause.Off = None
 
--- The JSON form of the result for a parent.
+-- The JSON form of the result for a parent: the parent's status, and whether the parent satisfies the dependency.
 unfoldable pub parent_data : ParentReason → Data
 parent_data p = object (
     with_some field.Variant (option_map string (parent_variant p.cause)) (
@@ -72,7 +73,7 @@ strategy_data s = object (
     with field.Segments (list_data segment_data s.segments)
     no_members)))))
 
--- The word for the origin of a variant.
+-- The word for the origin of the feature's variant: no variant, the first active strategy, or the feature's own variants.
 abbrev pub origin_text : Origin → List ℕ
 origin_text origin.NoVariant = codes "none"
 origin_text origin.Strategy = codes "strategy"
@@ -98,6 +99,6 @@ reason_data r = object (
 unfoldable pub explanation_data : Option Reason → Data
 explanation_data reason = option_map_or reason_data reason null
 
--- The line with the JSON text of an explanation.
+-- The line with the JSON text of an explanation, or with `null` if the state lacks the feature.
 unfoldable pub explanation_line : Option Reason → List ℕ
 explanation_line reason = compact_text (explanation_data reason) ++ codes "\n"

@@ -1,5 +1,5 @@
--- How a question is parsed: each key in order, with its kind. A question asks why a feature of a state is on or off for a
--- context at a moment.
+-- A question asks why a feature of a state is on or off for a context, at a time and with a random word. This file defines how a
+-- question is parsed: each key in order, with the kind of its value.
 use Rattle.std.specs.Prelude.{ℕ, List, Ok, ok_or}
 use Rattle.serde_json.specs.Data.{Data}
 use Rattle.unl_documents.specs.declared.fault.BadDocument.TheVariants.{NotJson}
@@ -25,10 +25,10 @@ question_of value = do
   word ← defaulted 0 any_whole field.Word value
   Ok (record { state = state; feature = feature; context = context; now = now; word = word })
 
--- The question that is parsed from an input, or its first fault.
+-- The question that is parsed from an input, or the input's first fault: `NotJson` if the input isn't a JSON object.
 unfoldable pub question_in : List ℕ → Reading Question
 question_in bytes = ok_or (json_of bytes) NotJson >>= document question_of
 
--- The state of the question is within its limits.
+-- The state of the question is valid: features and segments are within their limits, and names and ids increase strictly.
 abbrev pub IsValidQuestion : Question → Type 0
 IsValidQuestion question = IsValidState question.state

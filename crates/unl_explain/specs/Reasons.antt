@@ -1,5 +1,5 @@
--- The explanation why a feature is on or off for a context at a moment: the result of each part of its evaluation, by the
--- definitions of the evaluation itself.
+-- The explanation why a feature is on or off for a context at a moment: the evaluation of the feature and the result of each part
+-- of the evaluation, by the same definitions as the evaluation. A parent is a feature that the explained feature depends on.
 use Rattle.std.specs.Prelude.{ℕ, ◌+◌, List, [], ◌∷◌, map, length, Bool, true, false, ◌==◌, Option, is_some, option_map, option_and_then}
 use Rattle.std.specs.Prelude.{if◌then◌else◌}
 use Rattle.std.specs.Option.{option_map_or}
@@ -32,16 +32,17 @@ use Rattle.unl_explain.specs.declared.reason.StrategyReason.{StrategyReason}
 abbrev pub cause_by : Evaluation → ParentCause
 cause_by e = if e.on then cause.On e.variant.name else cause.Off
 
--- The status of a parent that the state has: `HasParents` if it has dependencies of its own, otherwise by its evaluation.
+-- The status of a parent that the state has: `HasParents` if the parent has dependencies of its own, otherwise the status by the
+-- parent's evaluation.
 unfoldable pub cause_of : List Segment → Fields → Moment → Feature → ParentCause
 cause_of segments context moment parent =
     if length parent.dependencies == 0 then cause_by (evaluation_where true parent segments context moment) else cause.HasParents
 
--- The status of the parent with the given name, which the state may lack.
+-- The status of the parent with the given name: `Absent` if the state has no feature with that name.
 unfoldable pub cause_in : State → Fields → Moment → List ℕ → ParentCause
 cause_in state context moment name = option_map_or (cause_of state.segments context moment) (feature_named name state.features) cause.Absent
 
--- The result for the parent of a dependency: its status, and whether it satisfies the dependency.
+-- The result for the parent of a dependency: the parent's name and status, and whether the parent satisfies the dependency.
 unfoldable pub parent_reason : State → Fields → Moment → Dependency → ParentReason
 parent_reason state context moment d = record {
   feature = d.feature;
@@ -67,8 +68,9 @@ missing_reason id = record { id = id; found = false; constraints = [] }
 unfoldable pub segment_reason : List Segment → Fields → ℕ → ℕ → SegmentReason
 segment_reason segments context now id = option_map_or (found_reason context now id) (segment_with id segments) (missing_reason id)
 
--- The result for a strategy: its constraints, its segments, its own rule, and whether it is active. `feature` is the name of
--- its feature, and `place` is its index in the feature.
+-- The result for a strategy: its name, whether each of its constraints holds, the results for its segments, whether its own rule
+-- (selected by its name) holds, and whether the strategy is active. `feature` is the name of the feature that has the strategy,
+-- and `place` is the index of the strategy in that feature.
 unfoldable pub strategy_reason : List ℕ → List Segment → Fields → Moment → ℕ → Strategy → StrategyReason
 strategy_reason feature segments context moment place s = record {
   name = s.name;
@@ -78,7 +80,7 @@ strategy_reason feature segments context moment place s = record {
   active = is_active s feature place segments context moment;
 }
 
--- The results for the strategies in their order. The first of them has the index `place`.
+-- The results for the strategies in their order. The first strategy of the list has the index `place` in the feature.
 abbrev pub reasons_from : ℕ → List Strategy → List ℕ → List Segment → Fields → Moment → List StrategyReason
 reasons_from place [] feature segments context moment = []
 reasons_from place (s ∷ ss) feature segments context moment =
@@ -86,19 +88,19 @@ reasons_from place (s ∷ ss) feature segments context moment =
 
 -- ---- features
 
--- The origin of the variant of a feature that is on: the first active strategy if it gives a variant, or else the feature's own
--- variants, or neither.
+-- The origin of the variant of a feature that is on: `Strategy` if a variant is chosen among those of the first active strategy,
+-- otherwise `Own` if one is chosen among the feature's own, otherwise `NoVariant`. `first` is the index of the first active strategy.
 abbrev pub origin_on : Feature → Fields → Moment → Option ℕ → Origin
 origin_on f context moment first =
     if is_some (option_and_then (strategy_variant f context moment) first) then origin.Strategy else (
     if is_some (own_variant f context moment) then origin.Own else
     origin.NoVariant)
 
--- The origin of a feature's variant. A feature that is off has no variant.
+-- The origin of a feature's variant; `on` says whether the feature is on. A feature that is off has no variant.
 unfoldable pub origin_of : Bool → Feature → Fields → Moment → Option ℕ → Origin
 origin_of on f context moment first = if on then origin_on f context moment first else origin.NoVariant
 
--- The explanation of a feature of the state, with all parts of its evaluation, even if the feature is off.
+-- The explanation of a feature of the state: the results for all dependencies and strategies, even if the feature is off.
 unfoldable pub reason_of : State → Fields → Moment → Feature → Reason
 reason_of state context moment f = record {
   evaluation = feature_evaluation state f context moment;

@@ -1,4 +1,7 @@
--- The explanation that is computed for an input, and the text that is sent.
+-- The explanation that is computed for an input, and the text that is sent to the sink. The input is a question: why is a feature
+-- of a state on or off for a context, at a time and with a random word? In the definitions below, `left` and `left_after` are the
+-- bytes still to be read from the source before and after, and `old` and `new` are the bytes sent to the sink before and after. Each
+-- is `None` if it is not observable.
 use Rattle.std.specs.Prelude.{◌≡◌, ℕ, List, [], Option, Result, Ok, Err}
 use Rattle.unl_documents.specs.Reading.{Reading, ◌>>=◌}
 use Rattle.unl_explain.specs.declared.question.Question.{Question}
@@ -12,36 +15,38 @@ use Rattle.unl_input.specs.declared.refusal.InputRefusal.{InputRefusal}
 use Rattle.unl_input.specs.declared.refusal.InputRefusal.TheVariants as refusal
 use Rattle.unl_input.specs.Answer.{InputOutcome, Says, SaysPrefix}
 
--- The explanation for a question, or `None` if the state lacks the feature. The host name of the moment is empty.
+-- The explanation for a question, or `None` if the state lacks the feature. The feature is evaluated at the time and with the random
+-- word of the question, and with an empty host name.
 abbrev pub answer_to : Question → Option Reason
 answer_to q = reasons_of q.state q.feature q.context (record { now = q.now; word = q.word; host = [] })
 
--- The line with the explanation for an input, or the input's first fault.
+-- The line with the explanation for an input (`null` if the state lacks the feature), or the input's first fault.
 unfoldable pub explained : List ℕ → Reading (List ℕ)
 explained bytes = do
   question ← question_in bytes
   Ok (explanation_line (answer_to question))
 
--- The line that is sent for an explanation: the line itself.
+-- The text that is sent for a line with an explanation: the line itself.
 abbrev pub as_it_is : List ℕ → List ℕ
 as_it_is line = line
 
--- The error for a refusal, which has been sent already.
+-- The error of a call whose input is refused: it has the same cause as the refusal.
 abbrev pub fault_of : InputRefusal → ExplainFault
 fault_of (refusal.BadInput fault) = BadInput fault
 fault_of refusal.TooLarge = TooLarge
 
--- An input with this outcome was read, and all of its line was sent: the explanation or the refusal.
+-- An input with this outcome was read, and one whole line was sent: the line with the explanation, or, if the outcome is a refusal,
+-- the line that reports the refusal.
 abbrev pub PrintsRefusal : InputOutcome (List ℕ) → Option (List ℕ) → Option (List ℕ) → Option (List ℕ) → Option (List ℕ) → Type 0
 PrintsRefusal outcome left left_after old new = Says explained as_it_is outcome left left_after old new
 
--- An input was read, and a prefix of its line was sent: of the explanation or of the refusal.
+-- An input was read, and a prefix of one line was sent: of the line with the explanation, or, if the input is refused, of the line
+-- that reports the refusal.
 abbrev pub PrintsRefusalPrefix : Option (List ℕ) → Option (List ℕ) → Option (List ℕ) → Option (List ℕ) → Type 0
 PrintsRefusalPrefix left left_after old new =
     (outcome : InputOutcome (List ℕ)) × SaysPrefix explained as_it_is outcome left left_after old new
 
--- The effect of explaining an input, by its result. `left` and `left_after` are the bytes still to be read from the source
--- before and after, and `old` and `new` are the bytes sent to the sink before and after. Each is `None` if it is not observable.
+-- The effect of explaining an input, by the result of the call. If the source failed or memory ran out, nothing was sent.
 abbrev pub Explains : Result (Unit {0}) ExplainFault → Option (List ℕ) → Option (List ℕ) → Option (List ℕ) → Option (List ℕ) → Type 0
 Explains (Ok u) left left_after old new = (line : List ℕ) × PrintsRefusal (Ok line) left left_after old new
 Explains (Err (BadInput fault)) left left_after old new = PrintsRefusal (Err (refusal.BadInput fault)) left left_after old new

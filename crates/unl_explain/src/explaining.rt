@@ -1,4 +1,4 @@
-//! Computes the explanation of a feature: its evaluation and the result of each of its parts.
+//! Computes the explanation of a feature: the feature's evaluation, and the result of each part of the evaluation.
 ghost use Rattle.std.specs.Prelude.{◌≡◌, IfOk};
 ghost use Rattle.unl_documents.specs.States.{IsValidState};
 ghost use Rattle.unl_documents.specs.Valid.{IsValidFeature};
@@ -14,10 +14,11 @@ use unl_dependencies::{evaluate_feature, feature_named, first_active};
 use unl_documents::{Feature, Memory, State};
 use unl_strategies::Moment;
 
-/// Explains why the feature with the given name is on or off for a context at a moment. The state's documents are
-/// within their limits. Returns `Ok(None)` exactly if the state has no feature with that name. The evaluation in the
-/// explanation equals the result of [`evaluate`](unl_dependencies::evaluate). Every dependency and every strategy is
-/// explained, even if the feature is off. The only error is out of memory.
+/// Explains why the feature with the given name is on or off for a context at a moment. The state must be valid: its
+/// features and segments are within their limits, and their names and ids increase strictly. If out of memory, the
+/// result is an error; there is no other error. Otherwise the result is `Ok(None)` exactly if the state has no feature
+/// with that name. The evaluation in the explanation is the one that [`evaluate`](unl_dependencies::evaluate) returns.
+/// Every dependency and every strategy is explained, even if the feature is off.
 #[tactic(auto, unfolding(crate::specs::Reasons::reasons_of))]
 pub fn explain(
     alloc: Global,
@@ -35,7 +36,7 @@ pub fn explain(
     }
 }
 
-/// Explains why a feature of the state is on or off.
+/// Explains why a feature of the state is on or off for a context at a moment.
 #[tactic(auto, unfolding(crate::specs::Reasons::reason_of))]
 fn explain_feature(
     alloc: Global,

@@ -1,5 +1,6 @@
-//! Explains why a feature is on or off for a context at a moment. An explanation holds the evaluation and the result of
-//! each of its parts. [`explain_run`] reads such a question from an input and writes the explanation as a line of JSON.
+//! Explains why a feature is on or off for a context at a moment. An explanation holds the feature's evaluation and the
+//! result of each part of the evaluation. [`explain_run`] reads a state, a feature's name, a context and a moment from an
+//! input and writes the explanation as a line of JSON.
 #![tactic(auto)]
 
 mod explaining;

@@ -1,4 +1,4 @@
-//! Converts an explanation to a line of JSON.
+//! Converts an explanation (why a feature is on or off) to a line of JSON.
 ghost use Rattle.std.specs.Prelude.{◌≡◌, ◌++◌, false, codes, IfOk, OnOk, option_map, string_bytes};
 ghost use Rattle.serde_json.specs.Data.{put as with_key, string};
 ghost use Rattle.serde_json.specs.View.{members_view, view};
@@ -15,7 +15,8 @@ use unl_dependencies::{Evaluation, VariantAnswer};
 use unl_documents::to_value::{ToValue, put, put_some};
 use unl_documents::{Field, List, Memory};
 
-/// Returns the line for an explanation: a JSON object with its keys in byte order, or `null` if the state lacks the feature.
+/// Returns the line for an explanation: a JSON object with its keys in byte order, or `null` if there is no explanation
+/// (the state lacks the feature).
 #[tactic(auto, unfolding(crate::specs::Line::explanation_line))]
 pub(crate) fn explanation_line(alloc: Global, reason: &Option<Reason>) -> Result<List<u8>, Memory>
     ensures { IfOk result (λ line. line ≡ explanation_line reason.now) }
@@ -45,7 +46,7 @@ fn plain_text(alloc: Global, value: &Value) -> Result<String, Memory>
     Ok(value.to_string(alloc)?)
 }
 
-/// Appends a line feed.
+/// Returns the text with a line feed appended.
 fn ended(alloc: Global, text: &str) -> Result<String, AllocError>
     ensures { IfOk result (λ line. string_bytes line ≡ text.now ++ codes "\n") }
 {
@@ -90,7 +91,7 @@ fn reason_value(alloc: Global, reason: &Reason) -> Result<Value, Memory>
     Ok(Value::Object(members))
 }
 
-/// Converts the index of a strategy to JSON: a number, or null if there is none.
+/// Converts the index of the first active strategy to JSON: a number, or null if there is no active strategy.
 fn first_value(first: Option<u32>) -> Value
     ensures { view result ≡ first_data first }
 {
@@ -100,7 +101,8 @@ fn first_value(first: Option<u32>) -> Value
     }
 }
 
-/// Converts the origin of a variant to JSON: `none`, `strategy` or `own`.
+/// Converts the origin of a variant to JSON: `none` (no variant), `strategy` (the first active strategy) or `own` (the
+/// feature's own variants).
 fn origin_value(alloc: Global, origin: Origin) -> Result<Value, Memory>
     ensures { IfOk result (λ v. view v ≡ string (origin_text origin)) }
 {
@@ -161,7 +163,8 @@ impl ToValue for ParentReason {
     }
 }
 
-/// Converts the status of a parent to JSON: `absent`, `has-parents`, `on` or `off`.
+/// Converts the status of a parent (a feature that the explained feature depends on) to JSON: `absent`, `has-parents`,
+/// `on` or `off`.
 fn cause_value(alloc: Global, cause: &ParentCause) -> Result<Value, Memory>
     ensures { IfOk result (λ v. view v ≡ string (cause_text cause.now)) }
 {
@@ -173,7 +176,7 @@ fn cause_value(alloc: Global, cause: &ParentCause) -> Result<Value, Memory>
     }
 }
 
-/// Inserts the name of the variant of a parent that is on. Does nothing for any other status.
+/// If the parent is on, inserts the name of the parent's variant at the key `variant`. Otherwise does nothing.
 fn put_variant(
     members: &mut Map<String, Value>,
     alloc: Global,

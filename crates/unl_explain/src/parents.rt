@@ -49,7 +49,7 @@ fn explain_parent(
     })
 }
 
-/// Returns the status of the parent with the given name, which the state may lack.
+/// Returns the status of the parent with the given name: `Absent` if the state has no feature with that name.
 #[tactic(auto, unfolding(crate::specs::Reasons::cause_in))]
 fn cause_in(
     alloc: Global,
@@ -67,7 +67,8 @@ fn cause_in(
     }
 }
 
-/// Returns the status of a parent. A parent that has dependencies of its own is not evaluated.
+/// Returns the status of a parent: `HasParents` if the parent has dependencies of its own (then the parent is not
+/// evaluated), otherwise `On` or `Off`, as the parent's evaluation says.
 #[tactic(auto, unfolding(crate::specs::Reasons::cause_of))]
 fn cause_of(
     alloc: Global,

@@ -1,4 +1,4 @@
-//! The question that an input asks: why is a feature of a state on or off for a context at a moment?
+//! The question that an input asks: why is a feature of a state on or off for a context, at a time and with a random word?
 ghost use Rattle.std.specs.Prelude.{IfOk};
 ghost use Rattle.unl_documents.specs.Reading.{Gives};
 ghost use Rattle.unl_explain.specs.Question.{IsValidQuestion, question_in, question_of};
@@ -53,10 +53,12 @@ impl Document for Question {
     }
 }
 
-/// Parses the question in an input, which is one JSON object.
+/// Parses a question from the bytes of an input, which are one JSON object. The context is empty if
+/// its key is absent or null; the time and the random word are 0 if theirs are.
 ///
 /// # Errors
-/// `NotJson` if the bytes are not JSON, otherwise the first fault of the object; or `Memory` if memory ran out.
+/// `NotJson` if the bytes are not JSON or the JSON value is not an object; otherwise the first fault of the object's keys.
+/// `Memory` if memory ran out.
 #[tactic(auto, unfolding(crate::specs::Question::question_in))]
 pub(crate) fn question_in(alloc: Global, bytes: &[u8]) -> Result<Question, BadDocument>
     ensures gives { Gives result (question_in bytes.now) }

@@ -6,7 +6,7 @@ use unl_documents::{List, Text};
 /// off.
 #[derive(Debug, Drop)]
 pub struct Reason {
-    /// The feature's evaluation.
+    /// The feature's evaluation: whether the feature is on, and its variant.
     pub evaluation: Evaluation,
     /// Whether the feature is enabled in its document.
     pub enabled: bool,
@@ -20,7 +20,7 @@ pub struct Reason {
     pub source: Origin,
 }
 
-/// Whether the parent of a dependency satisfies it, and why.
+/// Whether the parent of a dependency, which is the feature that the dependency names, satisfies the dependency, and why.
 #[derive(Debug, Drop)]
 pub struct ParentReason {
     /// The parent's name.
@@ -34,11 +34,11 @@ pub struct ParentReason {
 /// The status of a parent, as it matters to a feature that depends on it.
 #[derive(Debug, Drop)]
 pub enum ParentCause {
-    /// The state lacks the parent. It satisfies no dependency.
+    /// The state lacks the parent. An absent parent satisfies no dependency.
     Absent,
-    /// The parent has dependencies of its own. It satisfies no dependency.
+    /// The parent has dependencies of its own. Such a parent satisfies no dependency.
     HasParents,
-    /// The parent is on, with the variant of this name: `disabled` if it has none.
+    /// The parent is on. The text is the name of its variant, or `disabled` if it has no variant.
     On(Text),
     /// The parent is off.
     Off,
@@ -55,7 +55,8 @@ pub struct StrategyReason {
     pub segments: List<SegmentReason>,
     /// Whether the strategy's rule holds, regardless of constraints and segments.
     pub rule: bool,
-    /// Whether the strategy is active.
+    /// Whether the strategy is active: its rule and all of its constraints hold, and each of its segments is found and has only
+    /// constraints that hold.
     pub active: bool,
 }
 
@@ -73,7 +74,7 @@ pub struct SegmentReason {
 /// Where the variant of a feature comes from.
 #[derive(Clone, Copy, PartialEq, Eq, Debug)]
 pub enum Origin {
-    /// The feature has no variant.
+    /// There is no variant: the feature is off, or no variant is chosen.
     NoVariant,
     /// The variants of the first active strategy.
     Strategy,

@@ -1,4 +1,4 @@
-//! Reads a question as an input and writes its explanation.
+//! Reads a question from an input and writes its explanation.
 ghost use Rattle.std.specs.Prelude.{◌≡◌, ◌≢◌, ◌≤◌, Err, IfOk, IsErrOf};
 ghost use Rattle.unl_base.specs.Faults.{Rose};
 ghost use Rattle.unl_explain.specs.Line.{explanation_line as line_of};
@@ -39,15 +39,15 @@ pub enum ExplainFault {
 
 /// Reads a question from the source and writes its explanation to the sink.
 ///
-/// Reads the source to its end. The input is one JSON object with a state, the name of a feature, and the context and
-/// moment to evaluate it for. Writes one line of JSON that explains why the feature is on or off, or `null` if the
-/// state lacks the feature. The host name of the moment is empty. If the input is refused, the line `refused: <cause>`
-/// is written instead.
+/// Reads the source to its end. The input is one JSON object with a state, the name of a feature, and the context, the
+/// time and the random word for the evaluation. Writes one line of JSON that explains why the feature is on or off, or
+/// `null` if the state lacks the feature. The feature is evaluated with an empty host name. If the input is refused, the
+/// line `refused: <cause>` is written instead.
 ///
 /// # Errors
 /// - `TooLarge` if the input has more than 16,777,216 bytes. The line `refused: <cause>` was written.
-/// - `BadInput` if the input is not too large but has a fault; this is its first fault. The line `refused: <cause>` was
-///   written.
+/// - `BadInput`, with the first fault of the input, if the input is not too large but has a fault. The line
+///   `refused: <cause>` was written.
 /// - `ReadFault` if the source failed. Nothing was written.
 /// - `WriteFault` if the sink failed. A prefix of the explanation or of the line `refused: <cause>` was written.
 /// - `Memory` if memory ran out. Nothing was written.
@@ -57,9 +57,9 @@ pub fn explain_run<S: Source, K: Sink>(
     sink: &mut K,
 ) -> Result<(), ExplainFault>
     ensures explains { Explains result (S.left source.old) (S.left source.new) (K.sent sink.old) (K.sent sink.new) }
-    // Out of memory is not a fault of the input.
+    // `BadInput` never contains `Memory`: out of memory is not a fault of the input.
     ensures named { result ≢ Err (ExplainFault.BadInput BadDocument.Memory) }
-    // A read or write fault is returned only if the stream failed.
+    // `ReadFault` is returned only if the source failed, and `WriteFault` only if the sink failed.
     ensures read { IsErrOf result ExplainFault.ReadFault → Rose (S.faults source.old) (S.faults source.new) }
     ensures write { IsErrOf result ExplainFault.WriteFault → Rose (K.faults sink.old) (K.faults sink.new) }
     ensures source_later { S.faults source.old ≤ S.faults source.new }
@@ -111,7 +111,7 @@ impl InputAnswer for Explaining {
     }
 }
 
-/// Returns the line with the explanation for a question.
+/// Returns the line with the explanation for a question, or the line `null` if the state lacks the feature.
 fn answer_line(alloc: Global, question: &Question) -> Result<List<u8>, Memory>
     requires { IsValidQuestion question.now }
     ensures { IfOk result (λ line. line ≡ line_of (answer_to question.entry.now)) }

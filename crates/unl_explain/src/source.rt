@@ -11,7 +11,8 @@ use unl_documents::Feature;
 use unl_strategies::Moment;
 
 /// Returns where the variant of a feature comes from. `on` says whether the feature is on, and `first` is the index of
-/// its first active strategy. The feature is within its limits.
+/// the feature's first active strategy, or `None` if no strategy is active. The feature must be within
+/// the limits that are checked when a feature is read from JSON.
 #[tactic(auto, unfolding(crate::specs::Reasons::origin_of))]
 pub(crate) fn source_of(
     on: bool,
@@ -35,7 +36,7 @@ pub(crate) fn source_of(
     Origin::NoVariant
 }
 
-/// Whether a variant is chosen among those of the first active strategy.
+/// Whether a variant is chosen among those of the strategy at the index `first`. False if `first` is `None`.
 fn is_given_by_first(
     feature: &Feature,
     context: &Context,

@@ -1,4 +1,5 @@
-//! Explains the strategies of a feature: whether each constraint, each segment and the rule holds.
+//! Explains each strategy of a feature: which of its constraints and of its segments' constraints hold, whether its rule
+//! holds, and whether it is active.
 ghost use Rattle.std.specs.Prelude.{◌≡◌, ◌≤◌, IfOk, length, map};
 ghost use Rattle.unl_documents.specs.Valid.{IsValidFeature};
 ghost use Rattle.unl_explain.specs.Reasons.{reasons_from, segment_reason, strategy_reason, truths_of};
@@ -12,7 +13,8 @@ use unl_documents::{
 };
 use unl_strategies::{Moment, active, rule};
 
-/// Explains for each strategy of a feature whether it is active, and why. The feature is within its limits.
+/// Explains for each strategy of a feature whether it is active, and why. `segments` are those of the feature's state. The
+/// feature must be within the limits that are checked when a feature is read from JSON.
 pub(crate) fn explain_strategies(
     alloc: Global,
     feature: &Feature,
@@ -27,6 +29,7 @@ pub(crate) fn explain_strategies(
     explain_each(alloc, strategies, &feature.name, segments, context, moment)
 }
 
+/// Explains each of the given strategies, which are all those of the feature with the name `feature`.
 fn explain_each(
     alloc: Global,
     strategies: &[Strategy],
@@ -48,7 +51,7 @@ fn explain_each(
     Ok(reasons)
 }
 
-/// Explains whether the strategy at the index `place` of a feature is active, and why.
+/// Explains whether the strategy at the index `place` of the feature with the name `feature` is active, and why.
 #[tactic(auto, unfolding(crate::specs::Reasons::strategy_reason))]
 fn explain_strategy(
     alloc: Global,
@@ -72,8 +75,8 @@ fn explain_strategy(
     })
 }
 
-/// Returns for each id whether the segment exists, and which of its constraints hold. `now` is in milliseconds since
-/// 1970.
+/// Returns for each id whether a segment with that id exists, and which of the segment's constraints hold. `now` is in
+/// milliseconds since 1970.
 fn explain_segments(
     alloc: Global,
     ids: &[u64],
