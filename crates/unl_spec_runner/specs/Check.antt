@@ -30,7 +30,8 @@ abbrev pub fault_of : InputRefusal → CheckFault
 fault_of (refusal.BadInput fault) = BadFile fault
 fault_of refusal.TooLarge = TooLarge
 
--- The whole input was read, its whole report was sent, and the summary has the report's counts.
+-- The whole input was read, its whole report was sent, and the summary has the report's counts. `left`, `left_after`, `old` and
+-- `new` are as in `Checks`.
 pub record ReportsAll (draw : Draw) (summary : Summary) (left left_after old new : Option (List ℕ)) : Type 0 where
   pub report : Report
   pub says : Says (report_reading draw) text_of (Ok report) left left_after old new
@@ -38,7 +39,8 @@ pub record ReportsAll (draw : Draw) (summary : Summary) (left left_after old new
   pub failed : summary.failed ≡ report.failed
 
 -- The effect of a check, by its result. `left` and `left_after` are the bytes still to be read from the source before and
--- after, and `old` and `new` are the bytes sent to the sink before and after. If the input is refused, nothing was sent.
+-- after, and `old` and `new` are the bytes sent to the sink before and after. Each is `None` if it is not observable. If the input
+-- is refused, a read fails or memory runs out, nothing was sent. If a write fails, a prefix of the report was sent.
 abbrev pub Checks : Result Summary CheckFault → Draw → Option (List ℕ) → Option (List ℕ) → Option (List ℕ) → Option (List ℕ) → Type 0
 Checks (Ok summary) draw left left_after old new = ReportsAll draw summary left left_after old new
 Checks (Err (BadFile fault)) draw left left_after old new =

@@ -12,7 +12,8 @@ use Rattle.unl_spec_runner.specs.declared.expected.Expected.{Expected}
 use Rattle.unl_spec_runner.specs.declared.expected.Expected.TheVariants.{Result, Variant}
 use Rattle.unl_spec_runner.specs.declared.expected.ExpectedVariant.{ExpectedVariant}
 
--- The actual variant of an evaluation. Whether the feature is on is included only if the test compares it.
+-- The actual variant of an evaluation, for a test that expects the variant `v`. Whether the feature is on is included only if
+-- `v` includes that too.
 unfoldable pub variant_given : ExpectedVariant → Evaluation → ExpectedVariant
 variant_given v e = record {
   name = e.variant.name;
@@ -21,12 +22,12 @@ variant_given v e = record {
   feature_enabled = option_map (λ _. e.on) v.feature_enabled;
 }
 
--- The actual result of an evaluation, in the form of the expected one.
+-- The actual result of an evaluation, in the form of the expected result: whether the feature is on, or its variant.
 unfoldable pub given_as : Expected → Evaluation → Expected
 given_as (Result on) e = Result e.on
 given_as (Variant v) e = Variant (variant_given v e)
 
--- Both are absent, or both are present and agree.
+-- Whether two optional values are both absent, or are both present and agree by the comparison `agree`.
 abbrev pub options_agree : {T : Type 0} → (T → T → Bool) → Option T → Option T → Bool
 options_agree agree None None = true
 options_agree agree None (Some y) = false
@@ -50,7 +51,7 @@ agrees (Result on) (Variant w) = false
 agrees (Variant v) (Result given) = false
 agrees (Variant v) (Variant w) = variants_agree v w
 
--- The JSON form of a variant.
+-- The JSON form of an expected or actual variant. A payload or `feature_enabled` that is `None` has no key.
 unfoldable pub variant_data : ExpectedVariant → Data
 variant_data v = object (
     with_some field.Payload (option_map payload_data v.payload) (
@@ -64,6 +65,6 @@ unfoldable pub expected_data : Expected → Data
 expected_data (Result on) = boolean on
 expected_data (Variant v) = variant_data v
 
--- The JSON text of a result.
+-- The JSON text of an expected or actual result.
 abbrev pub expected_text : Expected → List ℕ
 expected_text e = compact_text (expected_data e)

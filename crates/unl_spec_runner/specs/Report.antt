@@ -1,4 +1,5 @@
--- The report of test files: a line for each test, numbered across the whole input, and a line with the counts at the end.
+-- The report of test files: a line for each test, numbered from 1 across the whole input, and at the end a line with the numbers
+-- of passed and failed tests.
 use Rattle.std.specs.Prelude.{ℕ, ◌+◌, List, [], ◌∷◌, ◌++◌, codes, decimal, map, Bool, not, unwrap_or, if◌then◌else◌}
 use Rattle.std.specs.List.{flat_map, count_by}
 use Rattle.serde_json.specs.Data.{string}
@@ -24,11 +25,11 @@ pub record Case : Type 0 where
   pub state : State
   pub test : Test
 
--- The moment of an evaluation with this draw. The host name is empty.
+-- The moment of an evaluation: the time and the random word of this draw, and an empty host name.
 abbrev pub moment_of : Draw → Moment
 moment_of draw = record { now = draw.now; word = draw.word; host = [] }
 
--- The evaluation of the feature that a test names, in the test's state. A feature that the state lacks is off.
+-- The evaluation of the feature that a test names, in the state of the test's file. A feature that the state lacks is off.
 unfoldable pub evaluated : Draw → Case → Evaluation
 evaluated draw c = unwrap_or (evaluation_of c.state c.test.toggle c.test.context (moment_of draw)) off
 
@@ -58,7 +59,7 @@ fail_line number description expected given =
     codes "fail " ++ (decimal number
     ++ (codes " " ++ (description ++ (codes " expected " ++ (expected ++ (codes " given " ++ (given ++ codes "\n")))))))
 
--- The line of a test with this actual result.
+-- The line of the test with this number, whose actual result is `given`.
 unfoldable pub line_of : ℕ → Test → Expected → List ℕ
 line_of number test given =
     if agrees test.expected given then pass_line number (quoted test.description)
@@ -69,7 +70,7 @@ abbrev pub lines_from : ℕ → Draw → List Case → List ℕ
 lines_from number draw [] = []
 lines_from number draw (c ∷ cs) = line_of number c.test (given draw c) ++ lines_from (number + 1) draw cs
 
--- The line with the counts.
+-- The line with the numbers of passed and failed tests.
 unfoldable pub counts_line : ℕ → ℕ → List ℕ
 counts_line passed failed = codes "passed " ++ (decimal passed ++ (codes " failed " ++ (decimal failed ++ codes "\n")))
 
@@ -77,7 +78,7 @@ counts_line passed failed = codes "passed " ++ (decimal passed ++ (codes " faile
 abbrev pub case_of : TestFile → Test → Case
 case_of file test = record { state = file.state; test = test }
 
--- The tests of a file, then its variant tests.
+-- The cases of a file: those of its feature tests, then those of its variant tests.
 abbrev pub cases_of : TestFile → List Case
 cases_of file = map (case_of file) (file.tests ++ file.variant_tests)
 

@@ -10,7 +10,7 @@ use Rattle.unl_spec_runner.specs.Report.{Report, Case, line_of, given, passes, c
 abbrev pub none_yet : Report
 none_yet = record { text = []; passed = 0; failed = 0 }
 
--- The report after the line of one more test, which passed or failed.
+-- The report after the line of one more test. The boolean says whether the test passed.
 abbrev pub with_line : List ℕ → Bool → Report → Report
 with_line line true r = record { text = r.text ++ line; passed = r.passed + 1; failed = r.failed }
 with_line line false r = record { text = r.text ++ line; passed = r.passed; failed = r.failed + 1 }
@@ -24,7 +24,7 @@ unfoldable pub with_tests : Draw → State → List Test → Report → Report
 with_tests draw state [] r = r
 with_tests draw state (t ∷ ts) r = with_tests draw state ts (with_case draw (record { state = state; test = t }) r)
 
--- The report after the tests of a file.
+-- The report after the feature tests of a file, then its variant tests.
 unfoldable pub with_file : Draw → TestFile → Report → Report
 with_file draw file r = with_tests draw file.state file.variant_tests (with_tests draw file.state file.tests r)
 

@@ -20,7 +20,8 @@ use Rattle.unl_spec_runner.specs.declared.document.TestFile.{TestFile}
 
 -- ---- tests
 
--- Whether the feature is expected to be on: the value at `feature_enabled`, or else at `featureEnabled`.
+-- Whether the feature is expected to be on: the value at `feature_enabled`, or else at `featureEnabled`; `None` if there is no value
+-- at either key.
 unfoldable pub feature_enabled_in : Data → Reading (Option Bool)
 feature_enabled_in value = do
   first ← optional truth field.FeatureEnabled value
@@ -59,11 +60,13 @@ test_of expected_in value = do
 
 -- ---- files
 
--- The largest number of tests of a file. It equals the size limit of an input in bytes, so no input can exceed it.
+-- The largest number of tests in each list of a file. No input can have more tests, because this is also the largest number of
+-- bytes in an input.
 abbrev pub most_tests : ℕ
 most_tests = 16777216
 
--- A test file: an optional name, which is not used, a state, and the tests of features and of variants.
+-- A test file: an optional name (checked to be a string, but not kept), a state, the tests of features, and the tests of variants.
+-- A list of tests is empty if its key is absent or null.
 unfoldable pub file_of : Data → Reading TestFile
 file_of value = do
   named ← defaulted [] any_text field.Name value
@@ -72,7 +75,7 @@ file_of value = do
   variant_tests ← defaulted [] (objects most_tests (test_of expected_variant)) field.VariantTests value
   Ok (record { state = state; tests = tests; variant_tests = variant_tests })
 
--- The state of a file is within its limits.
+-- The state of a file is within the limits that are checked when a state is read from JSON.
 abbrev pub IsValidFile : TestFile → Type 0
 IsValidFile file = IsValidState file.state
 
@@ -80,7 +83,7 @@ IsValidFile file = IsValidState file.state
 abbrev pub alone : TestFile → Reading (List TestFile)
 alone file = Ok (file ∷ [])
 
--- A single file that is the whole input.
+-- A list of one test file, which is the whole input.
 unfoldable pub file_alone : Data → Reading (List TestFile)
 file_alone value = document file_of value >>= alone
 

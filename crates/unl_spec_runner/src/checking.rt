@@ -18,8 +18,8 @@ use unl_input::{AnswerFault, InputAnswer, InputRefusal, answer_input};
 ///
 /// # Errors
 /// - `TooLarge` if the input has more than 16,777,216 bytes. Nothing is written.
-/// - `BadFile` if the input is not too large but is neither a test file nor an array of test files; this is its first fault.
-///   Nothing is written.
+/// - `BadFile`, with the first fault of the input, if the input is not too large but is neither a test file nor an array of
+///   test files. Nothing is written.
 /// - `ReadFault` if the source failed. Nothing is written.
 /// - `WriteFault` if the sink failed. A prefix of the report was written.
 /// - `Memory` if memory ran out. Nothing is written.
@@ -30,11 +30,11 @@ pub fn check<S: Source, K: Sink>(
     draw: &Draw,
 ) -> Result<Summary, CheckFault>
     // On success, the whole input was read, its report was sent, and the summary has the report's counts. If the input is
-    // refused, nothing was sent. If a write fails, a prefix of the report was sent.
+    // refused, a read fails or memory runs out, nothing was sent. If a write fails, a prefix of the report was sent.
     ensures checks { Checks result draw.entry.now (S.left source.old) (S.left source.new) (K.sent sink.old) (K.sent sink.new) }
-    // Out of memory is not a fault of the input.
+    // `BadFile` never contains `Memory`: out of memory is not a fault of the input.
     ensures named { result ≢ Err (CheckFault.BadFile BadDocument.Memory) }
-    // A read or write fault is returned only if the stream failed.
+    // `ReadFault` is returned only if the source failed, and `WriteFault` only if the sink failed.
     ensures read { IsErrOf result CheckFault.ReadFault → Rose (S.faults source.old) (S.faults source.new) }
     ensures write { IsErrOf result CheckFault.WriteFault → Rose (K.faults sink.old) (K.faults sink.new) }
     ensures source_later { S.faults source.old ≤ S.faults source.new }
@@ -61,7 +61,7 @@ fn fault_of(refusal: InputRefusal) -> CheckFault
     }
 }
 
-/// The computation that turns an input into the report of its test files, with a draw.
+/// The computation that turns an input into the report of its test files, whose features are evaluated with `draw`.
 #[derive(Drop)]
 struct Checking {
     draw: Draw,

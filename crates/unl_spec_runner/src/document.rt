@@ -24,7 +24,8 @@ use unl_documents::parsing::read_json;
 use unl_documents::{BadDocument, Field, List, Payload, State, Text};
 use unl_input::context_in;
 
-/// The largest number of tests of a file. It equals the size limit of an input in bytes, so no input can exceed it.
+/// The largest number of tests in each list of a file. No input can have more tests, because this is also the largest number
+/// of bytes in an input.
 const MOST_TESTS: usize = 16_777_216;
 
 /// A test: the evaluation of a feature for a context, with the expected result.
@@ -53,13 +54,13 @@ pub struct TestFile {
 
 /// A kind of test, which determines how its expected result is parsed.
 pub trait Expects {
-    // The expected result that is parsed from a test.
+    // The expected result that is parsed from the JSON value of a test, or the first fault.
     ghost expected_in: { Data → Result Expected BadDocument };
 
     /// Parses the expected result of a test.
     ///
     /// # Errors
-    /// The faults of the value at `expectedResult`, or out of memory.
+    /// The first fault of the value at `expectedResult`, `Missing` if the key is absent or null, or `Memory` if memory ran out.
     fn read_expected(alloc: Global, test: &Value) -> Result<Expected, BadDocument>
         ensures { Gives result (expected_in (view test.now)) };
 }
@@ -110,7 +111,8 @@ impl Document for ExpectedVariant {
     }
 }
 
-/// Parses whether the feature is expected to be on: the value at `feature_enabled`, or else at `featureEnabled`.
+/// Parses whether the feature is expected to be on: the value at `feature_enabled`, or else at `featureEnabled`. Returns
+/// `Ok(None)` if there is no value at either key.
 #[tactic(auto, unfolding(crate::specs::TestFile::feature_enabled_in))]
 fn feature_enabled_in(alloc: Global, value: &Value) -> Result<Option<bool>, BadDocument>
     ensures { Gives result (feature_enabled_in (view value.now)) }
@@ -153,7 +155,7 @@ impl<E: Expects> Item for TestOf<E> {
     }
 }
 
-/// Parses a test of the kind `E` from a JSON object. The description is empty if it is absent.
+/// Parses a test of the kind `E` from a JSON object. The description and the context are empty if their keys are absent or null.
 #[tactic(auto, unfolding(crate::specs::TestFile::test_of))]
 fn read_test<E: Expects>(alloc: Global, value: &Value) -> Result<Test, BadDocument>
     ensures { Gives result (test_of E.expected_in (view value.now)) }
@@ -196,7 +198,7 @@ impl Document for TestFile {
     }
 }
 
-/// Parses a test file that is an item of an array. An item that isn't an object is `NotJson`, as for a single file.
+/// Parses a test file that is an item of an array. If an item isn't an object, the error is `NotJson`, as for a single file.
 struct WholeFile;
 
 impl Kind for WholeFile {
@@ -237,7 +239,7 @@ fn files_of(alloc: Global, value: &Value) -> Result<List<TestFile>, BadDocument>
     }
 }
 
-/// Parses a single file that is the whole input.
+/// Parses a single file that is the whole input. Returns a list of that file alone.
 #[tactic(auto, unfolding(crate::specs::TestFile::file_alone))]
 fn file_alone(alloc: Global, value: &Value) -> Result<List<TestFile>, BadDocument>
     ensures gives { Gives result (file_alone (view value.now)) }

@@ -23,7 +23,7 @@ pub enum Expected {
 /// An expected or actual variant.
 #[derive(Debug, Drop)]
 pub struct ExpectedVariant {
-    /// The variant's name, or `disabled` if there is none.
+    /// The variant's name. If an evaluation has no variant, the actual name is `disabled`.
     pub name: Text,
     /// Whether there is a variant.
     pub enabled: bool,
@@ -34,8 +34,8 @@ pub struct ExpectedVariant {
 }
 
 impl Expected {
-    /// Converts an evaluation to the actual result, in the form of this expected result. The only error is out of
-    /// memory.
+    /// Converts an evaluation to the actual result, in the form of this expected result: whether the feature is on, or its
+    /// variant. The only error is out of memory.
     #[tactic(auto, unfolding(crate::specs::Expected::given_as))]
     pub fn given_as(&self, alloc: Global, evaluation: &Evaluation) -> Result<Expected, Memory>
         ensures { IfOk result (λ given. given ≡ given_as self.now evaluation.now) }
@@ -80,8 +80,8 @@ impl Expected {
 }
 
 impl ExpectedVariant {
-    /// Converts an evaluation to the actual variant. Whether the feature is on is included only if the test compares
-    /// it.
+    /// Converts an evaluation to the actual variant. Whether the feature is on is included only if this expected variant
+    /// includes that too.
     #[tactic(auto, unfolding(crate::specs::Expected::variant_given))]
     fn given(&self, alloc: Global, evaluation: &Evaluation) -> Result<ExpectedVariant, Memory>
         ensures { IfOk result (λ given. given ≡ variant_given self.now evaluation.now) }

@@ -14,16 +14,17 @@ pub struct Summary {
 /// Why a check has no summary.
 #[derive(Debug, Drop, PartialEq, Error)]
 pub enum CheckFault {
-    /// The first fault of the input. It is never `Memory`.
+    /// The input is neither a test file nor an array of test files. Carries the first fault of the input, which is never
+    /// `BadDocument::Memory`.
     #[error("the file is not accepted")]
     BadFile(BadDocument),
     /// The input has more than 16,777,216 bytes.
     #[error("the file is too large")]
     TooLarge,
-    /// The source failed.
+    /// The source, which the input is read from, failed.
     #[error("the input failed")]
     ReadFault,
-    /// The sink failed.
+    /// The sink, which the report is written to, failed.
     #[error("the output failed")]
     WriteFault,
     /// Out of memory.

@@ -24,7 +24,7 @@ impl Model for Report {
 
     ghost view = { λ r. record { text = r.printed.items; passed = r.passed; failed = r.failed } };
 
-    // Each test has a line of at least one byte, so the counts fit 64 bits.
+    // Each test has a line of at least one byte, so there are at most as many tests as bytes, and the counts fit 64 bits.
     ghost invariant = { λ r. r.passed + r.failed ≤ length r.printed.items };
 }
 
@@ -58,14 +58,15 @@ impl Report {
         }
     }
 
-    /// Returns the number of the next test, from 1.
+    /// Returns the number of the next test. Tests are numbered from 1.
     pub fn next_number(&self) -> u64
         ensures { result ≡ self.now.passed + self.now.failed + 1 }
     {
         self.passed + self.failed + 1
     }
 
-    /// Appends the line of a test and counts the test as passed or failed. The only error is out of memory.
+    /// Appends the line of a test, which must not be empty, and counts the test as passed or failed. The only error is out
+    /// of memory.
     pub fn add_line(&mut self, line: &[u8], passed: bool) -> Result<(), Memory>
         requires { 0 < length line.now }
         ensures { OnOk result (self.new ≡ with_line line.now passed self.old) }

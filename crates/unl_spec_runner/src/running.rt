@@ -28,7 +28,7 @@ pub fn report_files(alloc: Global, files: &[TestFile], draw: &Draw) -> Result<Re
     Ok(report)
 }
 
-/// Runs the tests of the files, in their order.
+/// Runs the tests of each file, in the order of the files, and adds them to the report.
 #[tactic(auto, unfolding(crate::specs::Steps::with_files))]
 fn run_files(
     alloc: Global,
@@ -61,7 +61,7 @@ fn run_file(alloc: Global, report: &mut Report, file: &TestFile, draw: &Draw) ->
     )
 }
 
-/// Runs tests in a state, in their order.
+/// Runs tests of one file, in order, with the file's state.
 #[tactic(auto, unfolding(crate::specs::Steps::with_tests))]
 fn run_tests(
     alloc: Global,
@@ -79,7 +79,7 @@ fn run_tests(
     Ok(())
 }
 
-/// Evaluates the feature of a test, and appends the test's line.
+/// Evaluates the feature of a test, appends the test's line to the report, and counts the test as passed or failed.
 #[tactic(auto, unfolding(crate::specs::Steps::with_case, crate::specs::Report::passes))]
 fn run_test(
     alloc: Global,
@@ -96,7 +96,7 @@ fn run_test(
     report.add_line(line.as_bytes(), test.expected.agrees(&given))
 }
 
-/// Returns the actual result of a test.
+/// Returns the actual result of a test, in the form of the expected one: whether the feature is on, or its variant.
 #[tactic(auto, unfolding(crate::specs::Report::given))]
 fn given(alloc: Global, state: &State, test: &Test, draw: &Draw) -> Result<Expected, Memory>
     requires { IsValidState state.now }
@@ -123,7 +123,7 @@ fn evaluated(alloc: Global, state: &State, test: &Test, draw: &Draw) -> Result<E
     }
 }
 
-/// Returns the evaluation of a feature that is off, which has no variant.
+/// Returns the evaluation of a feature that is off. It has the variant `disabled`, which means that there is no variant.
 fn off(alloc: Global) -> Result<Evaluation, Memory>
     ensures { IfOk result (λ e. e ≡ off) }
 {
@@ -137,8 +137,8 @@ fn off(alloc: Global) -> Result<Evaluation, Memory>
     })
 }
 
-/// Returns the line of a test: `pass` or `fail`, its number and its description. A failed test also has the expected
-/// and the actual result.
+/// Returns the line of a test: `pass` or `fail`, the test's number, and its description as a JSON string. The line of a
+/// failed test also has the expected and the actual result.
 #[tactic(auto, unfolding(crate::specs::Report::line_of))]
 fn line_of(alloc: Global, number: u64, test: &Test, given: &Expected) -> Result<String, Memory>
     ensures line { IfOk result (λ s. string_bytes s ≡ line_of number test.now given.now) }
