@@ -262,8 +262,8 @@ fn a_server_that_hangs_is_waited_for_once(rt: HostRuntime) {
     assert!(rt; (peer.connect(), net.connects.get()) == (Err(Failed), 1));
     net.seconds.set(35);
     assert!(rt; peer.connect() == Ok(()));
-    // An exchange that lasts 30 seconds after its connect fails too. For the next 5 seconds each connect fails at
-    // once.
+    // An exchange also fails once 30 seconds have passed since its connect. For the next 5 seconds each connect fails
+    // at once.
     net.seconds.set(65);
     assert!(rt; exchange(&mut peer, BOOK) == (Err(Failed), Err(Failed)));
     assert!(rt; peer.connect() == Err(Failed));

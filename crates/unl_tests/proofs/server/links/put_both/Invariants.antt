@@ -1,7 +1,7 @@
 use Rattle.std.proofs.Common.{◌≡◌, ◌<◌}
 use Rattle.crossbeam_queue.specs.Passes.{view}
 use Rattle.unl_workers.specs.Passes.{IsPassOfQueue}
-use Rattle.unl_server_tests.proofs.links.put_both.Given as goal
+use Rattle.unl_tests.proofs.server.links.put_both.Given as goal
 
 -- the pass is still one of the queue, and may put links
 abbrev pub invariant-loop-link : goal.invariant-loop-link

@@ -2,8 +2,8 @@
 //! the reopened upstream has the acknowledged commands and at most one more.
 ghost use Rattle.std.specs.Prelude.{◌≡◌, true};
 
-use crate::machine::Machine;
-use crate::upstreams::{opened, put, state_of_dev};
+use crate::keepers::machine::Machine;
+use crate::keepers::upstreams::{opened, put, state_of_dev};
 use sqlite::{Connection, FileStore, Files, Options};
 use sqlite_disk::{Crash, Disk, Memory};
 use std::alloc::Global;
@@ -49,7 +49,7 @@ fn open<D: Disk + Drop>(
 }
 
 /// Opens an upstream over the files and puts the features. Returns how many commands were acknowledged, and the files. No
-/// disk call is made on them after that.
+/// disk call is made on them after the last put.
 fn run<D: Disk + Drop>(alloc: Global, files: Files<D>) -> (u64, Files<D>) {
     let mut keeper = match open(alloc, files) {
         Ok(connection) => SqliteKeeper::new(connection),
@@ -62,8 +62,8 @@ fn run<D: Disk + Drop>(alloc: Global, files: Files<D>) -> (u64, Files<D>) {
     (done, keeper.into_connection().0.into_store().close())
 }
 
-/// Reopens an upstream from the files and returns how many commands it has. Returns `None` unless its features are exactly
-/// that many of the first names, its version number is that count, and one more put gets the next number.
+/// Reopens an upstream from the files and returns how many commands it has, which is its version number. Returns `None`
+/// unless the names of its features are the prefix of `NAMES` of that length, and one more put gets the next number.
 fn found<D: Disk + Drop>(alloc: Global, files: Files<D>) -> Option<u64> {
     let mut keeper = SqliteKeeper::new(open(alloc, files).ok()?);
     match opened(alloc, &mut keeper) {
@@ -107,7 +107,7 @@ fn stops_at(alloc: Global, calls: u64, loses: bool) -> Option<(u64, u64, bool)> 
 }
 
 /// Runs with 0, 1, 2 and so on allowed disk calls, and returns the first number that a run does not use up. Returns
-/// `None` if the test fails: a reopened upstream has fewer commands than were acknowledged, or more than one more, or
+/// `None` if the test fails: a reopened upstream has fewer commands than were acknowledged, or at least two more, or
 /// after the last run it does not have all ten.
 fn calls_of_a_run(alloc: Global, loses: bool) -> Option<u64> {
     for calls in 0..MOST {

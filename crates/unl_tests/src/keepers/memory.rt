@@ -1,5 +1,5 @@
 //! A test that reopens a keeper in memory that already has rows, which no program does.
-use crate::upstreams::{opened, put, state_of_dev};
+use crate::keepers::upstreams::{opened, put, state_of_dev};
 use std::alloc::Global;
 use unl_documents::List;
 use unl_keeper::MemoryKeeper;
