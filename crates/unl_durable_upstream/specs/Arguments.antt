@@ -1,4 +1,4 @@
--- What the command line means: the path of a file, and the options of the upstream.
+-- What the program's arguments mean: the path of the database file, and the options of the command `upstream` of unl_edge.
 use Rattle.std.specs.Prelude.{◌≡◌, ◌⊎◌, ⊤, ℕ, nat_lt, List, [], ◌∷◌, codes, if◌then◌else◌, Option, Some, None, Result, Ok, Err}
 use Rattle.std.specs.Prelude.{string_bytes}
 use Rattle.unl_durable_upstream.specs.declared.fault.ProgramFault.{ProgramFault}
@@ -9,11 +9,11 @@ use Rattle.unl_words.specs.declared.refusal.WordsRefusal.TheVariants.{Bad}
 use Rattle.unl_words.specs.declared.words.Words.{Words}
 use Rattle.unl_words.specs.declared.words.Words.TheVariants.{Replay, Check, Edge, Upstream, Follow, Explain, Load}
 
--- the number of links after which the door closes; `None` (no limit) if the option is 0
+-- the number of connections after which the door closes; `None` (no limit) if the option `--connections` is 0
 abbrev pub bound_of : ℕ → Option ℕ
 bound_of connections = if nat_lt 0 connections then Some connections else None
 
--- the arguments are not those of `upstream`
+-- the parsed arguments are those of a command other than `upstream`
 abbrev pub NamesAnotherCommand : Words → Type 0
 NamesAnotherCommand Replay = ⊤
 NamesAnotherCommand (Check now word) = ⊤
@@ -29,13 +29,14 @@ IsPathAndOptions [] arguments = ⊥
 IsPathAndOptions (first ∷ others) arguments =
     (string_bytes arguments.path ≡ first) × (words_of (codes "upstream" ∷ others) ≡ Ok (Upstream arguments.options))
 
--- There is no first argument, or the others are not the options of `upstream`.
+-- There are no arguments, or those after the first are not valid options of `upstream`.
 abbrev pub AreBad : List (List ℕ) → Type 0
 AreBad [] = ⊤
 AreBad (first ∷ others) = (words_of (codes "upstream" ∷ others) ≡ Err Bad)
     ⊎ ((words : Words) × NamesAnotherCommand words × (words_of (codes "upstream" ∷ others) ≡ Ok words))
 
--- the result of reading these arguments
+-- This is a possible result of reading these arguments. Memory can run out (`Memory`) for any arguments; `File`, `Row`, `Keeper` and
+-- `Door` are never the result.
 abbrev pub IsReading : List (List ℕ) → Result ProgramArguments ProgramFault → Type 0
 IsReading words (Ok arguments) = IsPathAndOptions words arguments
 IsReading words (Err BadArguments) = AreBad words

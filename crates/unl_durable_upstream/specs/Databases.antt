@@ -18,17 +18,20 @@ use Rattle.unl_words.specs.declared.words.UpstreamArguments.{UpstreamArguments}
 
 -- ---- one database
 
--- The keeper of a database before it is opened: it has counted no row and no fault. The rows of a database are not observable.
+-- The keeper of a database before the keeper is opened: it has counted no row and no fault. Its rows are `None`, since the rows of a
+-- database are not observable.
 abbrev pub unopened : KeeperState
 unopened = record { opened = false; faults = 0; count = 0; rows = None }
 
--- the initial upstream was reopened from the database and served links, with this result
+-- Serving the database (reopening the initial upstream from it, then serving links) ended with this result.
+-- `before` and `after` have the door and the upcoming draws.
 abbrev pub ServesDatabase : UpstreamState → ℕ → Result ℕ ProgramFault → Facing → Facing → Type 0
 ServesDatabase initial port result before after =
     (last : KeptState) × ReopeningEnds (kept_state initial unopened) port result last before after
 
--- The result of serving a database and then closing it. `File`: serving succeeded, but closing the database failed. `Memory`:
--- memory ran out before any link was handed out; or serving succeeded, and memory ran out in closing the database.
+-- The database was served and, if serving succeeded, closed. `File`: serving succeeded, but closing the database failed. `Memory`:
+-- memory ran out, and the door did not listen or hand out a link; or serving succeeded, and memory ran out while closing the
+-- database. `Row`, `Keeper` and `Door` are errors of serving. `BadArguments` is never the result.
 abbrev pub ServesAndCloses : UpstreamState → ℕ → Result ℕ ProgramFault → Facing → Facing → Type 0
 ServesAndCloses initial port (Ok served) before after = ServesDatabase initial port (Ok served) before after
 ServesAndCloses initial port (Err BadArguments) before after = ⊥
@@ -39,15 +42,16 @@ ServesAndCloses initial port (Err Door) before after = ServesDatabase initial po
 ServesAndCloses initial port (Err Memory) before after =
     (after.door ≡ before.door) ⊎ ((served : ℕ) × ServesDatabase initial port (Ok served) before after)
 
--- The first result is the result of serving the database, the second the result after closing it. The database is closed only if
--- serving succeeded; an error then comes from closing it.
+-- The first result is that of serving the database, the second that of serving and closing. If serving succeeded, the database is
+-- closed, and the second result is the same number of links, or an error of closing. If serving failed, the second result is the
+-- same error.
 abbrev pub IsClosedWith : Result ℕ ProgramFault → Result ℕ ProgramFault → Type 0
 IsClosedWith (Ok served) (Ok count) = count ≡ served
 IsClosedWith (Ok served) (Err fault) = IsOfDatabase fault
 IsClosedWith (Err fault) result = result ≡ Err fault
 
--- A draw was taken; its random word is the boot number of the upstream with these options. Then the database was served and
--- closed, with this result.
+-- A draw was taken; its random word is the boot number of the upstream with these options. Then the database was served, and closed
+-- if serving succeeded, with this result.
 pub record RunsDatabase (options : UpstreamArguments) (result : Result ℕ ProgramFault) (before after : Facing) : Type 0 where
   pub draw : Draw
   pub coming : Coming
@@ -58,12 +62,13 @@ pub record RunsDatabase (options : UpstreamArguments) (result : Result ℕ Progr
 
 -- ---- the program
 
--- nothing was served, since the database could not be opened or memory ran out
+-- nothing was served and no draw was taken, since the database could not be opened or memory ran out
 abbrev pub IsUnserved : Result ℕ ProgramFault → Facing → Facing → Type 0
 IsUnserved (Ok served) before after = ⊥
 IsUnserved (Err fault) before after = IsOfDatabase fault × (after ≡ before)
 
--- how a run over a file ends: either nothing was served, or the database in the file was served
+-- A run over a database file ended with this result: either the database could not be opened or memory ran out, and no draw was
+-- taken; or a draw was taken, and serving the database ended with this result, which may be an error.
 pub record RunsFile (options : UpstreamArguments) (result : Result ℕ ProgramFault) (before after : Facing) : Type 0 where
   pub ends : IsUnserved result before after ⊎ RunsDatabase options result before after
 
@@ -73,7 +78,7 @@ pub record IsNewDoor (door : DoorState) : Type 0 where
   pub given : door.given ≡ 0
   pub back : door.back ≡ 0
 
--- the arguments were read, and the file was served with a new door, with this result
+-- the arguments were read, and the program ran over the database file with a new door; the run ended with this result
 pub record ReadsAndRuns (words : List (List ℕ)) (result : Result ℕ ProgramFault) : Type 0 where
   pub arguments : ProgramArguments
   pub reads : IsReading words (Ok arguments)
@@ -87,7 +92,7 @@ abbrev pub IsUnread : List (List ℕ) → Result ℕ ProgramFault → Type 0
 IsUnread words (Ok served) = ⊥
 IsUnread words (Err fault) = IsReading words (Err fault)
 
--- how the program ends, for some arguments of its command line: they could not be read, or the file was served
+-- how the program ends, for some list of arguments: the arguments could not be read, or the program ran over the database file
 abbrev pub ProgramEnds : Result ℕ ProgramFault → Type 0
 ProgramEnds result = (words : List (List ℕ)) × (IsUnread words result ⊎ ReadsAndRuns words result)
 

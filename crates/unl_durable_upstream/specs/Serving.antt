@@ -38,14 +38,15 @@ facing door coming = record { door = door; coming = coming }
 
 -- ---- the links
 
--- An upstream and its keeper served `served` links. Nothing but attempts to keep the commands of their requests changed the
--- upstream and the keeper, whether or not the door's links are observable.
+-- An upstream and its keeper served `served` links. Whether or not the door's links are observable, nothing but attempts to keep
+-- commands (to apply and store them) changed the upstream and the keeper. `opened` is their state before, `last` after.
 pub record ServesDurableLinks (opened last : KeptState) (before after : Facing) (served : ℕ) : Type 0 where
   pub serves_links : ServesKeptLinks (linking opened before.coming before.door) (linking last after.coming after.door) served
   pub carries : AttemptsPreserve opened last
 
--- How serving ends on a door that was to listen on this port. On success it served `served` links until the door was closed.
--- On failure either the door could not listen and nothing changed, or it served some links and then failed.
+-- How serving ends on a door that was to listen on this port. On success the upstream served `served` links until the door
+-- was closed. On failure either nothing changed, as when the door could not listen; or the door listened, and the upstream served
+-- `served` links, perhaps none, before the door failed.
 abbrev pub LinksEnd : KeptState → ℕ → Result ℕ Failed → KeptState → Facing → Facing → Type 0
 LinksEnd opened port (Ok served) last before after =
     ServesDurableLinks opened last before after served × IsClosedAt port before.door after.door
@@ -53,8 +54,9 @@ LinksEnd opened port (Err failed) last before after =
     ((last ≡ opened) × (after ≡ before))
     ⊎ ((served : ℕ) × ServesDurableLinks opened last before after served × ListenedAt port before.door after.door)
 
--- What serving did, for a door whose links are observable. Each link adds the kept commands of its requests, in order, and the
--- keeper keeps them after the commands that it was reopened with. If the keeper never failed, no reply is 503 `KeeperFault`.
+-- What serving did, for a door whose links are observable. The commands of the links' requests that were accepted and stored are
+-- kept in order, after the commands that the upstream was reopened with. If the keeper's fault count is 0 at the end, no reply is the
+-- 503 of `KeeperFault`, which says that a put failed.
 pub record NamesLinks
     (opened last : KeptState) (before after : Facing) (served : ℕ) (links : List (List ℕ)) (returned : List (List ℕ × ℕ)) : Type 0 where
   pub serves : ServesLinks LinkServed (linking opened before.coming before.door) (linking last after.coming after.door) served links
@@ -66,8 +68,9 @@ pub record NamesLinks
 
 -- ---- the kept commands
 
--- Reopening the keeper's rows again, with an initial upstream of the same environments and epoch, restores the kept commands,
--- or these and one of the commands whose put failed. Only a fault of the keeper or running out of memory can prevent it.
+-- If the keeper's rows are observable, reopening an upstream from them again restores the kept commands, or these and one of
+-- `failed`, the commands whose put failed. The initial upstream of that reopening must have the same environments and epoch as
+-- `initial`. Only a fault of the keeper or running out of memory can prevent the reopening.
 abbrev pub CanBeReopened : UpstreamState → KeptState → List Command → Type 0
 CanBeReopened initial last failed = (fresh : UpstreamState) (rows : List (List ℕ)) (keeper : KeeperState) (result : Result ℕ ReopenFault)
     (again : KeptState) → fresh.board.slots ≡ initial.board.slots → last.keeper.rows ≡ Some rows → keeper.rows ≡ last.keeper.rows
@@ -85,9 +88,10 @@ pub record KeepsAcknowledged (initial : UpstreamState) (opened last : KeptState)
   -- the upstream is the reopened one after the acknowledged commands, and so the initial one after all kept commands
   pub up : last.up ≡ after_commands (acknowledged tried) opened.up
   pub represents : IsAfterKept initial last
-  -- a later start has all of them again, and at most one more, whose put failed with no successful put since
+  -- a later start has all kept commands again, and at most one more, whose put failed with no successful put since
   pub reopens : CanBeReopened initial last (failed_after [] tried)
-  -- the keeper's fault count rose by at least the number of puts that failed
+  -- the keeper's fault count rose by at least the number of puts that failed other than by running out of memory, or is at its
+  -- maximum, 2^64 - 1
   pub faults : RoseBy (faults_among tried) opened.keeper.faults last.keeper.faults
 
 -- The upstream was reopened from its keeper's rows, which held `command_count` commands. Then links were served, and serving
@@ -106,26 +110,27 @@ pub record OpensAndServes
 
 -- ---- how it ends
 
--- the fault is that the row with this number is missing or refused
+-- the fault is that the row with this number is missing, holds no command, or holds a command that is refused
 abbrev pub IsOfRow : ℕ → ReopenFault → Type 0
 IsOfRow place (reopening.BadRow at text) = at ≡ place
 IsOfRow place (reopening.NoRow at) = at ≡ place
 IsOfRow place reopening.Fault = ⊥
 IsOfRow place reopening.Memory = ⊥
 
--- the upstream was not reopened, for this reason; the keeper's rows are unchanged, and no link was handed out
+-- the upstream was not reopened, for this reason; the keeper's rows, the door and the upcoming draws are unchanged
 pub record FailsToReopen (start : KeptState) (fault : ReopenFault) (last : KeptState) (before after : Facing) : Type 0 where
   pub keeper : IsSameKeeper start.keeper last.keeper
   pub reopens : Reopens start (Err fault) last
   pub same : after ≡ before
 
--- the upstream was not reopened because row `place` is missing or refused
+-- the upstream was not reopened because row `place` is missing, holds no command, or holds a command that is refused
 pub record RefusesRow (start : KeptState) (place : ℕ) (last : KeptState) (before after : Facing) : Type 0 where
   pub fault : ReopenFault
   pub of_row : IsOfRow place fault
   pub fails : FailsToReopen start fault last before after
 
--- how reopening and serving end, for a door that was to listen on this port
+-- how reopening and serving end with each result, for a door that was to listen on this port; `BadArguments` and `File` are never
+-- the result
 abbrev pub ReopeningEnds : KeptState → ℕ → Result ℕ ProgramFault → KeptState → Facing → Facing → Type 0
 ReopeningEnds start port (Ok served) last before after = OpensAndServes start port (Ok served) last before after
 ReopeningEnds start port (Err BadArguments) last before after = ⊥

@@ -36,12 +36,13 @@ fn disconnect<F: Disk + Drop>(connection: Connection<FileStore<F>>) -> Result<()
     connection.close()
 }
 
-/// Opens the database file at the path in the arguments, and serves it as [`serve_over`] does. The file is opened with
-/// `system`; everything else uses `rt`. If the database can't be opened or read, the reason is reported on the error
+/// Opens the database file at the path in the arguments, and serves it as [`serve_over`] does. `system` opens the file and
+/// allocates memory; `rt` waits and reports. If the database can't be opened or read, the reason is reported on the error
 /// stream of `rt`.
 ///
 /// # Errors
-/// `File`: the database could not be opened or closed. All other errors are those of [`serve_over`].
+/// `File`: the database could not be opened or closed. `Memory`: out of memory while the database was opened, or as for
+/// [`serve_over`]. All other errors are those of [`serve_over`].
 pub fn serve_file<D: Door, R: Draws, W: Wait + Eprint>(
     system: &HostRuntime,
     rt: &W,
@@ -76,8 +77,8 @@ fn report_keeper<E: Eprint>(rt: &E, path: &str, ended: &Result<u64, ProgramFault
 }
 
 /// Reopens an upstream from a database, listens on the port in the arguments, and serves the links of the door until
-/// the door is closed. Each command is in the database before it is acknowledged. At the end the database is closed,
-/// which moves the content of its write-ahead log to the file. Returns how many links were served. The random word of
+/// the door is closed. Each command is in the database before it is acknowledged. If serving succeeded, the database is
+/// closed, which moves the content of its write-ahead log to the file. Returns how many links were served. The random word of
 /// the first draw is used as the boot number of the upstream, which distinguishes this run of the program from others.
 ///
 /// # Errors
@@ -106,7 +107,8 @@ pub fn serve_over<F: Disk + Drop, D: Door, R: Draws, W: Wait + Eprint>(
     }
 }
 
-/// Reopens an upstream from a database, serves the links of the door, and closes the database.
+/// Reopens an upstream from a database, serves the links of the door, and closes the database if serving succeeded.
+/// Returns how many links were served. The errors are those of [`serve_over`].
 fn serve_database<F: Disk + Drop, D: Door, R: Draws, W: Wait + Eprint>(
     rt: &W,
     alloc: Global,
@@ -127,7 +129,8 @@ fn serve_database<F: Disk + Drop, D: Door, R: Draws, W: Wait + Eprint>(
 }
 
 /// Reopens an upstream from a keeper, and serves the links of the door. Reports on the error stream when puts to the
-/// keeper begin to fail, and when they work again. Returns the result and the keeper.
+/// keeper begin to fail, and when they work again. Returns the result of serving, and
+/// the keeper.
 fn serve_keeper<K: Keeper + Drop, D: Door, R: Draws, W: Wait + Eprint>(
     rt: &W,
     alloc: Global,

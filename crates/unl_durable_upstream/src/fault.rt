@@ -11,7 +11,8 @@ use thiserror::Error;
 /// Why the program failed.
 #[derive(Debug, Drop, Error)]
 pub enum ProgramFault {
-    /// There is no path, or the arguments after it are not options of `upstream`.
+    /// The arguments can't be read or aren't UTF-8, there is no path, or the arguments after the path are not valid options
+    /// of `upstream`.
     #[error("unl_durable_upstream: bad words")]
     BadArguments,
     /// The database could not be opened or closed.
@@ -32,7 +33,7 @@ pub enum ProgramFault {
 }
 
 impl ProgramFault {
-    /// Returns the exit code of the program, a number from 2 to 8 (chosen by this project).
+    /// Returns the exit code of the program for this error: 2, 3, 6, 7 or 8. No standard prescribes these numbers.
     pub fn code(&self) -> u8
         ensures { result ≡ code_of self.now }
     {

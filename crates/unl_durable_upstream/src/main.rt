@@ -31,9 +31,9 @@ fn main(rt: HostRuntime) -> ExitCode {
     ExitCode::from(exit_code(&ended, printed))
 }
 
-/// Reads the arguments, and serves an upstream over the database file that they name. Connections are accepted by a
-/// door, and the serving ends when the door closes. Files are opened with `system`, sockets with `rt`. Returns how many
-/// links (accepted connections) were served.
+/// Reads the arguments, warns if the database file that they name is newer than the epoch, and serves an upstream over
+/// this file. Connections are accepted by a door, and the serving ends when the door closes. Files are opened with
+/// `system`, sockets with `rt`. Returns how many links were served.
 ///
 /// # Errors
 /// As for `read_program_arguments` and `serve_file`. `Memory`: out of memory.
@@ -70,8 +70,8 @@ fn print_end(rt: &HostRuntime, ended: &Result<u64, ProgramFault>) -> bool {
     printed.is_ok()
 }
 
-/// Returns the exit code of the program: 0 on success, 5 if its last line could not be printed, or the code of the
-/// error.
+/// Returns the exit code of the program: the code of the error, if there was one. On success the exit code is 0, or 5 if
+/// the number of served links could not be printed.
 fn exit_code(ended: &Result<u64, ProgramFault>, is_printed: bool) -> u8
     ensures { result ≡ exit_code_of ended.now is_printed }
 {

@@ -6,8 +6,9 @@ use unl_documents::Text;
 use unl_keeper::{KeepRefusal, Keeper};
 use unl_net::Log;
 
-/// Forwards each call to a keeper. Reports on the error stream when the keeper's puts begin to fail with `Fault`, and
-/// when they succeed again. A line that can't be written at once is dropped.
+/// Forwards each call to a keeper. Reports on the error stream when puts begin to fail with `Fault`, and when a put
+/// succeeds again after that. A put that runs out of memory says nothing of the database, so nothing is reported for it.
+/// A line that can't be written at once is dropped.
 #[derive(Drop)]
 pub struct ReportingKeeper<'a, K: Keeper + Drop, E: Eprint> {
     keeper: K,
@@ -39,7 +40,7 @@ impl<'a, K: Keeper + Drop, E: Eprint> ReportingKeeper<'a, K, E> {
         keeper
     }
 
-    /// Reports whether the database fails or works, if that differs from the last put.
+    /// Reports whether the database fails or works, if that differs from what was known before.
     fn note(&mut self, fails: bool)
         ensures { self.new.keeper ≡ self.old.keeper }
     {
@@ -58,11 +59,13 @@ impl<'a, K: Keeper + Drop, E: Eprint> ReportingKeeper<'a, K, E> {
     }
 }
 
-/// Returns whether a call failed because of the database, and not because memory ran out.
-fn is_fault<T: Drop>(outcome: &Result<T, KeepRefusal>) -> bool {
-    match outcome {
-        Err(KeepRefusal::Fault) => true,
-        _ => false,
+/// Returns whether a put shows that the database fails (`Some(true)`) or works (`Some(false)`). If memory ran out it shows
+/// neither.
+fn shows_failure(put: &Result<(), KeepRefusal>) -> Option<bool> {
+    match put {
+        Ok(()) => Some(false),
+        Err(KeepRefusal::Fault) => Some(true),
+        Err(KeepRefusal::Memory) => None,
     }
 }
 
@@ -79,7 +82,9 @@ impl<'a, K: Keeper + Drop, E: Eprint> Keeper for ReportingKeeper<'a, K, E> {
 
     fn put(&mut self, alloc: Global, text: &Text) -> Result<(), KeepRefusal> {
         let put = self.keeper.put(alloc, text);
-        self.note(is_fault(&put));
+        if let Some(fails) = shows_failure(&put) {
+            self.note(fails);
+        }
         put
     }
 

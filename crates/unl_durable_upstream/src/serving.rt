@@ -18,7 +18,8 @@ use unl_upstream::{ReopenFault, Upstream, reopen, serve_kept_door};
 use unl_usage::report_commands;
 use unl_words::{UpstreamArguments, own_book};
 
-/// Creates an upstream from its options. It has applied no command.
+/// Creates an upstream from its options and the boot number `boot`, which distinguishes this run of the program from
+/// others. The new upstream has applied no command.
 ///
 /// # Errors
 /// Out of memory.
@@ -80,10 +81,10 @@ pub fn serve_reopened<K: Keeper, D: Door, R: Draws, W: Wait + Eprint>(
 }
 
 /// Listens on a port, serves the links of the door one after another until the door is closed, and returns how many were
-/// served.
+/// served. The keeper must be open.
 ///
 /// # Errors
-/// `Failed`: the door failed, and incremented its fault count.
+/// `Failed`: the door could not listen on the port, or could not hand out a link, and incremented its fault count.
 #[tactic(auto, using(unl_base::proofs::Listening::listens_after))]
 fn serve_links<K: Keeper, D: Door, R: Draws, W: Wait>(
     rt: &W,
