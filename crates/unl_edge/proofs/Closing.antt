@@ -1,6 +1,6 @@
 -- How an edge ends after it took its first draw and tried to listen.
 use Rattle.std.proofs.Common.{◌≡◌, ◌<◌, ◌≤◌, ◌∙◌, ℕ, Bool, List, length, Option, Some, None, Result, Ok, Err, IfSome, ap, arith, inl, inr, sym, subst}
-use Rattle.std.proofs.Common.{false, true}
+use Rattle.std.proofs.Common.{true}
 use Rattle.std.specs.Prelude.{OnErr, OnOk}
 use Rattle.unl_base.specs.Draws.{TakesDraw}
 use Rattle.unl_base.specs.Doors.{DoorState, IsClosed, IsClosedAt, ListenedAt, ListenedOnlyAt, ServedOnlyAt, listening_at}
@@ -10,12 +10,12 @@ use Rattle.unl_core.specs.declared.board.Board.{Board}
 use Rattle.unl_edge.specs.Edges.{EdgeEnds, EdgeRuns, HandsLinks, IsServed, RunsEdge, StopsEarly}
 use Rattle.unl_edge.specs.Scene.{Scene}
 use Rattle.unl_edge.specs.EdgeServices.{EdgeService, begun_board, duty_of, service_at, service_of}
-use Rattle.unl_edge.specs.Upstreams.{connections_line, line_end}
-use Rattle.unl_edge.specs.declared.ends.ServingEnd.{ServingEnd}
-use Rattle.unl_edge.specs.declared.ends.ServingEnd.TheVariants.{Closed, WriteFault, DoorFault, OutOfMemory}
 use Rattle.unl_server.specs.Handling.{Coming}
 use Rattle.unl_refresh.proofs.Connecting.{none_taken}
 use Rattle.unl_refresh.specs.Turns.{Duty}
+use Rattle.unl_upstream.specs.Ends.{connections_line, line_end}
+use Rattle.unl_upstream.specs.declared.ends.ServingEnd.{ServingEnd}
+use Rattle.unl_upstream.specs.declared.ends.ServingEnd.TheVariants.{Closed, WriteFault, DoorFault, OutOfMemory}
 use Rattle.unl_words.specs.declared.words.EdgeArguments.{EdgeArguments}
 use Rattle.unl_input.specs.Refusal.{WritesLine}
 use Rattle.unl_input.specs.declared.refusal.WriteLineFault.{WriteLineFault}
@@ -59,12 +59,6 @@ pub listened_at : (port : ℕ) (could : Bool) (before door : DoorState) → coul
     → ListenedAt port before door
 listened_at port could before door did listens =
     ap (λ (d : DoorState). d.ports) listens ∙ ap (λ (b : Bool). (listening_at port b before).ports) did
-
--- the door could not listen, so its ports are unchanged
-pub listened_nowhere : (port : ℕ) (could : Bool) (before door : DoorState) → could ≡ false → door ≡ listening_at port could before
-    → door.ports ≡ before.ports
-listened_nowhere port could before door didnt listens =
-    ap (λ (d : DoorState). d.ports) listens ∙ ap (λ (b : Bool). (listening_at port b before).ports) didnt
 
 -- the door listened once more, at this port, and nothing else changed it
 pub listened_at_last : (port : ℕ) (could : Bool) (before door after : DoorState) → could ≡ true → door ≡ listening_at port could before

@@ -11,9 +11,6 @@ use Rattle.unl_edge.proofs.Closing.{stops_at_once}
 use Rattle.unl_edge.proofs.Commands.{refusing_decides, upstream_decided}
 use Rattle.unl_edge.specs.declared.ends.CheckEnd.{CheckEnd}
 use Rattle.unl_edge.specs.declared.ends.CheckEnd.TheVariants as check
-use Rattle.unl_edge.specs.declared.ends.ServingEnd.{ServingEnd}
-use Rattle.unl_edge.specs.declared.ends.ServingEnd.TheVariants as serving
-use Rattle.unl_edge.specs.declared.ends.UpstreamEnd.TheVariants as upstream
 use Rattle.unl_edge.specs.declared.ends.ArgumentsEnd.{ArgumentsEnd}
 use Rattle.unl_edge.specs.declared.ends.ArgumentsEnd.TheVariants as words
 use Rattle.unl_edge.specs.declared.status.Status.{Status}
@@ -36,6 +33,9 @@ use Rattle.unl_replay.specs.Replayed.{Replays}
 use Rattle.unl_replay.proofs.Delivering.{replays_lines}
 use Rattle.unl_spec_runner.specs.Check.{report_reading, report_of}
 use Rattle.unl_spec_runner.specs.Report.{Report}
+use Rattle.unl_upstream.specs.declared.ends.ServingEnd.{ServingEnd}
+use Rattle.unl_upstream.specs.declared.ends.ServingEnd.TheVariants as serving
+use Rattle.unl_upstream.specs.declared.ends.UpstreamEnd.TheVariants as upstream
 use Rattle.unl_words.specs.Words.{WordsReading}
 use Rattle.unl_words.specs.declared.refusal.WordsRefusal.TheVariants.{Bad, Memory}
 use Rattle.unl_words.specs.declared.words.Words.TheVariants.{Replay, Check, Edge, Explain, Follow, Load, Upstream}

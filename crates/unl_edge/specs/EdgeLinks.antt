@@ -26,8 +26,8 @@ ServesShares edition installs (links ∷ shares) [] ended = ⊥
 ServesShares edition installs (links ∷ shares) (before ∷ begun) [] = ⊥
 
 -- The door handed out `count` links. Each was served once, by one of the workers, from the state in which it was handed out, and
--- no other link was served. Each answer on each link was given over the board that results from the opening board by a list of
--- installs that starts with `installs`.
+-- no other link was served. Each answer on each link was computed from the opening board after a list of installs that starts
+-- with `installs`.
 pub record EachLinkServed
     (edition : Option BoardAt) (installs : List Install) (door door_after : DoorState) (count : ℕ)
     (begun ended : List EdgeWorker) : Type 0 where

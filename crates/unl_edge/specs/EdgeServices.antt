@@ -68,7 +68,7 @@ pub record EdgeWorker : Type 0 where
   pub book : WorkerBook
   pub coming : Coming
 
--- the worker of a slot
+-- a worker's state, from its worker slot
 abbrev pub edge_worker : {W R : Type 0} → (R → Coming) → WorkerSlot (EdgeLinkHandler W) R → EdgeWorker
 edge_worker coming_of pool_slot =
     record { reader = pool_slot.server.desk.reader; book = book_of pool_slot.server; coming = coming_of pool_slot.draws }
@@ -113,7 +113,7 @@ pub record WorkConcurrently (workers : ℕ) (edition : Option BoardAt) (installs
   pub ordered : All (λ worker. SeesInOrder worker.reader) ended
 
 -- The upstream was polled. Each exchange of the first turn had its request and its effect, whether it got a reply or the peer failed.
--- Each later turn was made, or ended because memory ran out, unless the front was near its maximum or there were too few places.
+-- Each later turn was made, or ended because memory ran out, unless the front was near its maximum or there were fewer places than slots.
 -- `installs` leads from the opening board to what the first turn installed. After that turn the workers began with `installs`, and each
 -- answer on each link was computed from the opening board after a list of installs that starts with them.
 pub record RunsService (service : EdgeService) (peer peer_after : PeerView) : Type 0 where

@@ -7,12 +7,12 @@ use Rattle.unl_base.specs.declared.draws.Draw.{Draw}
 use Rattle.unl_edge.specs.Scene.{Scene}
 use Rattle.unl_edge.specs.EdgeLinks.{ServesEachLink}
 use Rattle.unl_edge.specs.EdgeServices.{EdgeService, service_of}
-use Rattle.unl_edge.specs.Upstreams.{connections_line}
-use Rattle.unl_edge.specs.declared.ends.ServingEnd.{ServingEnd}
-use Rattle.unl_edge.specs.declared.ends.ServingEnd.TheVariants.{Closed, WriteFault, DoorFault, OutOfMemory}
 use Rattle.unl_server.specs.Handling.{Coming}
 use Rattle.unl_refresh.specs.Connects.{Connects}
 use Rattle.unl_refresh.specs.Exchange.{peer_view}
+use Rattle.unl_upstream.specs.Ends.{connections_line}
+use Rattle.unl_upstream.specs.declared.ends.ServingEnd.{ServingEnd}
+use Rattle.unl_upstream.specs.declared.ends.ServingEnd.TheVariants.{Closed, WriteFault, DoorFault, OutOfMemory}
 use Rattle.unl_words.specs.declared.words.EdgeArguments.{EdgeArguments}
 use Rattle.unl_workers.specs.declared.acceptor.AcceptOutcome.{AcceptOutcome}
 use Rattle.unl_workers.specs.declared.pool.PoolOutcome.{PoolOutcome}
@@ -44,8 +44,8 @@ pub record HandsLinks (served : ℕ) (before after : Scene) : Type 0 where
   pub left : after.door.state.links ≡ option_map (λ list. drop served list) before.door.state.links
   pub unread : after.input.left ≡ before.input.left
 
--- The peer was asked for the book and for each slot at least once, and each turn made its exchanges in order. After the first turn,
--- with the door listening at this port, `served` links were handed out, and each was served once, by one of the workers.
+-- Unless it failed, the peer was asked for the book and for each slot at least once. Each turn made its exchanges in order. After the
+-- first turn, with the door listening at this port, `served` links were handed out, and each was served once, by one of the workers.
 abbrev pub IsServed : EdgeService → ℕ → ℕ → Scene → Scene → Type 0
 IsServed service port served before after = AsksPeer (length service.opening.places + 1) before after
     × ServesEachLink service (peer_view before.peer.state before.peer.faults) (peer_view after.peer.state after.peer.faults)

@@ -48,7 +48,7 @@ refused_end (Ok u) = Refused
 refused_end (Err say.WriteFault) = WriteFault
 refused_end (Err say.Memory) = OutOfMemory
 
--- The input was read, and its report or the cause of its refusal was sent in full. That determines the outcome.
+-- The input was read, and its report or the cause of its refusal was sent in full. `end` is determined by the outcome.
 pub record PrintsReport (draw : Draw) (end : CheckEnd) (left left_after old new : Option (List ℕ)) : Type 0 where
   pub outcome : InputOutcome Report
   pub says : Says (report_reading draw) text_of outcome left left_after old new
@@ -79,7 +79,7 @@ LoadEnds seed count (Err load.Memory) old new = new ≡ old
 abbrev pub bad_arguments_line : List ℕ
 bad_arguments_line = codes "unl_edge: bad words\n"
 
--- The line for bad arguments was sent, or a prefix of it; or memory ran out before the arguments were read, and nothing was sent.
+-- The line for bad arguments was sent, or a prefix of it if a write failed; or memory ran out, and nothing was sent.
 abbrev pub PrintsBadArguments : ArgumentsEnd → Option (List ℕ) → Option (List ℕ) → Type 0
 PrintsBadArguments words.Bad old new = Sends old bad_arguments_line new
 PrintsBadArguments words.WriteFault old new = SendsPrefix old bad_arguments_line new
@@ -148,7 +148,7 @@ abbrev pub explained_status : InputOutcome (List ℕ) → Status
 explained_status (Ok line) = status.Done
 explained_status (Err refusal) = status.Refused
 
--- The exit code is determined by the arguments and the input. Bad arguments determine it alone. For an upstream this holds only
+-- The exit code is determined by the arguments and the input. Bad arguments alone determine it. For an upstream this holds only
 -- if the fault count of `keep` didn't rise.
 abbrev pub IsDecided : WordsReading → ℕ → Scene → Scene → Type 0
 IsDecided (Ok Replay) code before after = IfSome before.input.left (λ bytes. code ≡ code_of (ending_status (replay_of bytes).ending))

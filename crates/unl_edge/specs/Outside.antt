@@ -57,6 +57,6 @@ workers_asked (Follow replica) = 0
 workers_asked Explain = 0
 workers_asked (Load seed count) = 0
 
--- a value from the arguments, or this one if they could not be read
+-- a value from the arguments, or `otherwise` if they could not be read
 abbrev pub from_arguments : {A : Type 0} → A → (Words → A) → Option Words → A
 from_arguments otherwise of words = unwrap_or (option_map of words) otherwise

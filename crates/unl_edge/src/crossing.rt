@@ -41,8 +41,8 @@ fn notes_cross()
     send_of::<Served>()
 }
 
-/// The parts of a worker's state are `Send`, and so is a receiver of metrics. Callers that move one to another thread
-/// call this first, to have the facts. It does nothing at run time.
+/// The parts of a worker's state are `Send`, and so is a receiver of metrics. Callers that move any of these to another
+/// thread call this first, to have the facts. It does nothing at run time.
 pub(crate) fn worker_parts_are_send()
     ensures desk { IsSend DeskType.the_row }
     ensures book { IsSend BookType.the_row }

@@ -152,8 +152,8 @@ where
     }
 }
 
-/// As `serve_service`, after the first poll. First, each reader learns the installs of `writer`, so that it shows no
-/// older board.
+/// As `serve_service`, after the first poll. First, each reader learns the installs of `writer`, so that it answers
+/// from no older board.
 fn serve_after<'a, D: Door, P, R, T, S: Spawner, W: Wait + Sync>(
     alloc: Global,
     rt: &'a W,

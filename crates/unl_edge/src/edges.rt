@@ -12,8 +12,6 @@ ghost use Rattle.unl_words.specs.Lists.{are_upstream_tokens, environment_of};
 ghost use Rattle.unl_words.specs.Ranges.{IsEdge};
 
 use crate::edge_service::serve_service;
-use crate::ends::ServingEnd;
-use crate::upstreams::print_connections;
 use crate::world::World;
 use std::alloc::Global;
 use std::sync::Wait;
@@ -22,6 +20,7 @@ use unl_core::Board;
 use unl_documents::{List, Memory, Text};
 use unl_keeper::KeepMaker;
 use unl_refresh::Poller;
+use unl_upstream::{ServingEnd, print_connections};
 use unl_words::{EdgeArguments, token_environments};
 use unl_workers::PoolFault;
 

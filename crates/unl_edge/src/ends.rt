@@ -1,8 +1,4 @@
-//! The outcomes of the commands.
-ghost use Rattle.std.specs.Prelude.{◌≡◌};
-ghost use Rattle.unl_edge.specs.Upstreams.{line_end};
-
-use unl_input::{LinesFault, WriteLineFault};
+//! The outcomes of a check, and of arguments that name no command.
 
 /// The outcome of a check.
 #[derive(Clone, Copy)]
@@ -19,48 +15,6 @@ pub enum CheckEnd {
     WriteFault,
     /// Memory ran out.
     OutOfMemory,
-}
-
-/// The outcome of serving the links of a door. A door accepts the connections of clients and hands them out as links.
-#[derive(Clone, Copy)]
-pub enum ServingEnd {
-    /// The door was closed, and the count of the links was printed.
-    Closed,
-    /// The door was closed, and then printing the count of the links failed.
-    WriteFault,
-    /// The door failed, or a thread couldn't be started.
-    DoorFault,
-    /// Memory ran out.
-    OutOfMemory,
-}
-
-impl ServingEnd {
-    /// Returns the outcome for a closed door, from the result of printing the count of its links.
-    pub fn of_line(written: Result<(), WriteLineFault>) -> ServingEnd
-        ensures { result ≡ line_end written }
-    {
-        match written {
-            Ok(()) => ServingEnd::Closed,
-            Err(WriteLineFault::WriteFault) => ServingEnd::WriteFault,
-            Err(WriteLineFault::Memory) => ServingEnd::OutOfMemory,
-        }
-    }
-}
-
-/// The outcome of the command `upstream`. The keeper of an upstream stores its commands in rows.
-#[derive(Clone, Copy)]
-pub enum UpstreamEnd {
-    /// Memory ran out before the first line of the input was taken.
-    OutOfMemory,
-    /// The keeper failed, or couldn't be created.
-    KeeperFault,
-    /// A row of the keeper is missing or isn't an accepted command. The field is the result of printing a line about
-    /// that row.
-    Row(Result<(), WriteLineFault>),
-    /// Taking the lines of the input ended before its end, with the cause: a refused line, a fault, or out of memory.
-    Lines(LinesFault),
-    /// All lines were accepted, and then links were served.
-    Links(ServingEnd),
 }
 
 /// The outcome for arguments that name no command.

@@ -15,9 +15,10 @@ use unl_refresh::MetricsSender;
 use unl_server::Server;
 use unl_workers::LinkHandler;
 
-/// A desk that answers requests with a reader. An install is one publication of the board. Each answer is from a board
-/// with at least the number of installs that the reader has learned of. The reader sees one list of installs only: it
-/// has never continued from a learned list, except from the opening board.
+/// A desk that answers requests with a reader. Each answer is from a board after at least as many installs as the reader
+/// has learned of. A reader that learns a longer list of installs from the writer continues from that list: the list of
+/// its next look starts with the learned one. This reader has never done so, or only while it knew no board but the
+/// opening board (the board before all installs).
 #[derive(Drop)]
 pub(crate) struct FreshDesk {
     /// The reader of the published boards.

@@ -17,7 +17,7 @@ pub(crate) struct RefreshTask<'u, 'e, 'p, 'r, 'a, 'w, W: Wait, P> {
     pub peer: &'p mut P,
     /// Receives the metrics of the workers.
     pub receiver: &'r mut MetricsReceiver<'a>,
-    /// The runtime, which the receiver needs to take books from its queue.
+    /// The runtime, which `receiver` needs to take the metrics books of the workers from its queue.
     pub rt: &'a W,
 }
 

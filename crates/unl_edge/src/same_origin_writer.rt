@@ -26,7 +26,7 @@ pub(crate) trait Root {
     ghost known: { Knowledge BoardAt Install };
 }
 
-/// A call that passes `Brand` as `K` doesn't use this value: the proof of the call chooses the value of `known`.
+/// If a call passes `Brand`, its proof chooses the value of `known`. The value here is only a placeholder.
 impl Root for Brand {
     ghost use Rattle.unl_publication.specs.Rule.{knows_nothing};
 

@@ -3,20 +3,21 @@ ghost use Rattle.std.specs.Prelude.{◌≡◌};
 ghost use Rattle.unl_edge.specs.Status.{check_status, code_of, explain_status, follow_status, lines_status, load_status};
 ghost use Rattle.unl_edge.specs.Status.{row_status, serving_status, upstream_status, arguments_status};
 
-use crate::ends::{ArgumentsEnd, CheckEnd, ServingEnd, UpstreamEnd};
+use crate::ends::{ArgumentsEnd, CheckEnd};
 use unl_explain::ExplainFault;
 use unl_follow::FollowFault;
 use unl_input::{LinesFault, WriteLineFault};
 use unl_load::LoadFault;
+use unl_upstream::{ServingEnd, UpstreamEnd};
 
 /// How the program ends.
 #[derive(Clone, Copy)]
 pub enum Status {
-    /// All of the input was processed; all tests of a check passed; a door was closed.
+    /// The command succeeded. For `check`: all tests passed.
     Done,
     /// A test of a check failed.
     TestFailed,
-    /// The arguments name no command, or a value is outside its range.
+    /// The arguments name no command, are rejected by clap, or have a value outside its range.
     BadArguments,
     /// The input, a line of it, or a row of a keeper is refused.
     Refused,

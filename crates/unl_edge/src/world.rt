@@ -29,7 +29,7 @@ pub struct World<
     pub peer: P,
     /// The source of the time and the random word of each answer.
     pub draws: R,
-    /// Waits before each turn (a poll of the server), and returns whether there is one more.
+    /// Waits for the next turn (a poll of the server), and returns whether there is one.
     pub pace: T,
     /// Starts jobs in threads.
     pub spawner: S,

@@ -17,3 +17,7 @@ pub mod Carrying
 pub mod Reopened
 pub mod KeptServed
 pub mod KeptNaming
+pub mod KeepingLines
+pub mod NamedLinks
+pub mod AfterLines
+pub mod NewKeepers

@@ -69,7 +69,7 @@ command_or_reply_with up q (Some token) =
 abbrev pub command_or_reply_at : UpstreamState → Request → CommandOrReply
 command_or_reply_at up q = if is_post q.method then command_or_reply_with up q q.token else Reply (bad_method route.Commands)
 
--- the given route of a request's target is the route of commands; it is `None` if the target has no known route
+-- the given route of a request's target is the route of commands; `None` means that the target has no known route
 abbrev pub is_commands_route : Option Route → Bool
 is_commands_route None = false
 is_commands_route (Some route) = is_commands route

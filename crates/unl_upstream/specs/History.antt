@@ -68,7 +68,7 @@ pub record IsHistoryOf (epoch : ℕ) (commands : List Command) (v : EnvVersion) 
 
 -- ---- what an upstream's versions represent
 
--- each environment's version represents the history of those commands that are for it
+-- each environment's version represents the history of the commands for that environment
 abbrev pub AreHistories : ℕ → List Command → UpstreamState → Type 0
 AreHistories epoch commands up = (environment : List ℕ) (v : EnvVersion) → snapshot_in environment up.board.slots ≡ Some v
     → IsHistoryOf epoch (for_environment environment commands) v

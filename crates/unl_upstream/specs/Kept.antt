@@ -30,7 +30,7 @@ kept_state up keeper = record { up = up; keeper = keeper }
 
 -- ---- the kept commands
 
--- the commands parsed from the texts, in order, without the texts that are no command
+-- the commands parsed from the texts, in order; texts that are not commands are skipped
 abbrev pub commands_in : List (List ℕ) → List Command
 commands_in texts = filter_map (λ text. if_read (command_in text)) texts
 
@@ -54,7 +54,8 @@ IsAfterKept opening state = IfSome (kept_rows state.keeper) (λ texts. ResultIn 
 abbrev pub most_rows : ℕ
 most_rows = 10000000
 
--- The result of a command, for a keeper with `count` rows: if the command is accepted but the keeper is full, it is `KeeperFull`.
+-- The result of a command, for a keeper with `count` rows: if the command is accepted but the keeper is full, the result is
+-- `KeeperFull`.
 abbrev pub with_room : {T : Type 0} → ℕ → CommandResult T → Result T KeepCommandRefusal
 with_room count (Ok x) = if nat_lt count most_rows then Ok x else Err (KeeperFull count)
 with_room count (Err cause) = Err (refused_as cause)
@@ -222,7 +223,7 @@ pub record Carries (tried : List KeepAttempt) (before after : KeptState) : Type 
   -- at most one row follows the kept rows: that of a command that the upstream accepts and whose put failed, with no successful
   -- put since
   pub left : (failed : List Command) → LeavesOne before failed → LeavesOne after (failed_after failed tried)
-  -- the fault count rose by at least the number of commands not kept because the keeper failed
+  -- the fault count rose by at least the number of commands not kept because the keeper failed, or is at its maximum
   pub faults : RoseBy (faults_among tried) before.keeper.faults after.keeper.faults
 
 -- attempts to keep some commands were made in order, and nothing else changed the upstream and its keeper

@@ -30,7 +30,7 @@ LinkServed = LinkServedBy ServesKeptRequest KeptServingRunsOut ServesKept
 abbrev pub ExtendsAttempts : KeptState → KeptState → Type 0
 ExtendsAttempts before after = (start : KeptState) → SomeAttempts start before → SomeAttempts start after
 
--- Links on which these bytes were received were served one after another. The pairs are the bytes sent on each, and its fault
+-- Links on which these bytes were received were served one after another. Each pair is the bytes sent on a link, and the link's fault
 -- count.
 abbrev pub Linked : KeptState → Coming → List (List ℕ) → List (List ℕ × ℕ) → KeptState → Coming → Type 0
 Linked = LinkedBy LinkServed
@@ -72,8 +72,8 @@ pub record LinkEffect
   pub gives : commands ≡ acknowledged (tried_in 0 (kept_serving_state before 0 coming) requests text reached answered)
   pub takes : (taken ≡ served.count) ⊎ ((served.end ≡ Memory) × (taken ≡ served.count + 1))
 
--- Links were served one after another. The first began after `commands` from `start`, with `drawn` draws taken; the last ended
--- after `commands_after`, with `drawn_after` draws taken. Each link adds its commands and its draws to these.
+-- Links were served one after another. Before the first, `commands` were kept since `start`, and `drawn` draws were taken; after the last,
+-- these are `commands_after` and `drawn_after`. Each link adds its kept commands and its draws.
 abbrev pub LinkedByNames :
     UpstreamState → ℕ → Coming → List Command → ℕ → KeptState → List (List ℕ) → List (List ℕ × ℕ) → List Command → ℕ → KeptState → Type 0
 LinkedByNames start reopened coming commands drawn state [] [] commands_after drawn_after after =
@@ -100,7 +100,7 @@ NoKeeperFaults start reopened coming commands drawn state (bytes ∷ links) (bac
 
 -- Links were served, and the state after them is described by the kept commands and the draws taken since `start`. Nothing but
 -- attempts to keep the commands of their requests, in order, changed the upstream and its keeper. If the keeper failed at none of
--- them, no reply is 503 `KeeperFault`.
+-- these attempts, no reply is 503 `KeeperFault`.
 pub record AllLinksEffect
     (start : UpstreamState) (reopened : ℕ) (coming : Coming) (commands : List Command) (drawn : ℕ) (state : KeptState)
     (links : List (List ℕ)) (backs : List (List ℕ × ℕ)) (after : KeptState) (coming_after : Coming) : Type 0 where

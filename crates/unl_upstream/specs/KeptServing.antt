@@ -43,7 +43,7 @@ abbrev pub RepliesByCommand : Option Command → KeptState → Request → Draw 
 RepliesByCommand None before q draw reply after = (after ≡ before) × (upstream_answer before.up q draw ≡ changing_nothing before.up reply)
 RepliesByCommand (Some command) before q draw reply after = RepliesTo command before reply after
 
--- a request is answered: its command, if it gives one, is kept, and any other request is answered as without a keeper
+-- a request is answered: if it gives a command, by an attempt to keep the command, and otherwise as without a keeper
 abbrev pub AnswersByKeeping : KeptState → Request → Draw → Reply → KeptState → Type 0
 AnswersByKeeping before q draw reply after = RepliesByCommand (command_given before.up.secret q) before q draw reply after
 
@@ -58,7 +58,7 @@ tried_of None before q draw reply after by_command = []
 tried_of (Some command) before q draw reply after by_command = record { command = command; result = by_command.result } ∷ []
 
 -- A request is answered, and the attempt to keep its command changes the upstream and the keeper only as `Carries` states: among
--- others, the upstream is still its initial state after the kept commands, in order. Unless the keeper failed at this attempt, the
+-- other things, the upstream is still its initial state after the kept commands, in order. Unless the keeper failed at this attempt, the
 -- reply is not 503 `KeeperFault`.
 pub record CarriesAnswer (before : KeptState) (q : Request) (draw : Draw) (reply : Reply) (after : KeptState) : Type 0 where
   pub gives : AnswersByKeeping before q draw reply after

@@ -11,3 +11,7 @@ pub mod Reopening
 pub mod KeptServing
 pub mod KeptLinks
 pub mod Laws
+pub mod KeptLines
+pub mod PlainLines
+pub mod Ends
+pub mod Running

@@ -31,7 +31,7 @@ abbrev pub after_reading : UpstreamState → Reading Command → Option Upstream
 after_reading up (Ok command) = if_obeyed (apply_command command up)
 after_reading up (Err fault) = None
 
--- the upstream after the command of a row; `None` if the row is no command or its command is refused
+-- the upstream after the command of a row; `None` if the row is not a command or its command is refused
 unfoldable pub row_after : List ℕ → UpstreamState → Option UpstreamState
 row_after text up = after_reading up (command_in text)
 
@@ -68,7 +68,7 @@ pub record Applies (opening : UpstreamState) (rows : Option (List (List ℕ))) (
   pub first : IfSome rows (λ list. texts ≡ take count list)
   pub leads : rows_after texts opening ≡ Some up
 
--- in every case the keeper's rows are unchanged, it stays open if it was, and its fault count does not fall
+-- the keeper's rows are unchanged, it stays open if it was open, and its fault count does not fall
 pub record IsSameKeeper (before after : KeeperState) : Type 0 where
   pub rows : after.rows ≡ before.rows
   pub stays : before.opened ≡ true → after.opened ≡ true
@@ -119,7 +119,7 @@ pub record GivesBack
   pub represents : IsAfterKept fresh reopened
 
 -- If an upstream is the initial one after the kept commands, and at most one row of a failed put follows them, then reopening
--- the keeper with an initial upstream of the same slots restores the kept commands, and perhaps that of the failed put. This
+-- the keeper with an initial upstream of the same slots restores the kept commands, and perhaps the command of the failed put. This
 -- holds unless the keeper fails or memory runs out.
 abbrev pub ReopeningGivesBack : Type 0
 ReopeningGivesBack = (opening fresh : UpstreamState) (before reopened : KeptState) (keeper : KeeperState) (failed : List Command)

@@ -39,7 +39,7 @@ pub record ServesLinkBy
   pub changes : Changes (handler_state before 0 coming) end count (handler_state after count coming_after)
 
 -- A link was served. `bytes` were received on it; `back` is the bytes that were sent on it, and its fault count. `count` of its
--- requests were answered, each with the next draw, and `Changes` relates the handler's states before and after.
+-- requests were answered, each as `Step` states, and `Changes` relates the handler's states before and after.
 pub record LinkServedBy
     {S : Type 0} (Step : Steps S) (RunsOutAtRequest : RunsOut S) (Changes : Changing S) (before : S) (coming : Coming)
     (bytes : List ℕ) (back : List ℕ × ℕ) (after : S) (coming_after : Coming) : Type 0 where

@@ -86,7 +86,7 @@ has_segment id segments = list_any (λ segment. segment.id == id) segments
 abbrev pub room_for : Bool → ℕ → ℕ → CommandResult (Unit {0})
 room_for represents most count = if represents || nat_lt count most then Ok tt else Err (TooMany count)
 
--- succeeds if the item to remove exists; otherwise it is refused with this refusal
+-- succeeds if the item to remove exists; otherwise fails with this refusal
 abbrev pub found : Bool → CommandRefusal → CommandResult (Unit {0})
 found represents refusal = if represents then Ok tt else Err refusal
 
@@ -137,7 +137,7 @@ pub record IsNext (v : EnvVersion) (event : Event) : Type 0 where
 
 -- ---- the effect of a command on an upstream
 
--- a slot's place that has this version and accepts any next batch (it does not wait for a hydration)
+-- the place of a slot that has this version and is not held (it does not wait for a hydration)
 abbrev pub place_with : EnvVersion → Place
 place_with v = record { version = Some v; held = false }
 

@@ -1,4 +1,4 @@
-//! Keeping a command: its text is stored with a keeper before its new version is published.
+//! Keeping a command: its text is stored with a keeper before the new version of its environment is published.
 ghost use Rattle.std.specs.Prelude.{◌≡◌, ◌≢◌, ◌<◌, true, [], ◌∷◌, Err, IfOk, IfErr, OnOk};
 ghost use Rattle.unl_upstream.specs.Command.{IsValidCommand};
 ghost use Rattle.unl_upstream.specs.Kept.{Carries, IsPending, KeepsCommand, Puts, kept_state, with_room};

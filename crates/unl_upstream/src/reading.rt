@@ -107,7 +107,7 @@ pub fn read_command(alloc: Global, value: &Value) -> Result<Command, BadDocument
     read_document(alloc, value)
 }
 
-/// Reads a command from the JSON bytes of a request body or of a kept row, as [`read_command`] does.
+/// Reads a command from the JSON bytes of a request body, of a kept row or of a line, as [`read_command`] does.
 #[tactic(auto, unfolding(crate::specs::Command::command_in))]
 pub(crate) fn read_command_bytes(alloc: Global, bytes: &[u8]) -> Result<Command, BadDocument>
     ensures gives { Gives result (command_in bytes.now) }

@@ -48,7 +48,7 @@ impl Upstream {
     /// the epoch. `boot` distinguishes this run of the program from others. `book` is the list of tokens that requests
     /// may use.
     ///
-    /// An upstream that lost its state must be created with a higher epoch than before. Otherwise its clients may hold
+    /// An upstream that lost its state must be created with a higher epoch than before. Otherwise its clients may have
     /// versions with higher numbers, and ignore the new ones.
     ///
     /// # Errors

@@ -18,16 +18,16 @@ pub(crate) struct Case {
     pub input: &'static str,
     /// The links that the door hands out, in order.
     pub links: &'static [Script],
-    /// What the door does after them.
+    /// What the door does after its last link.
     pub after_links: AfterLinks,
-    /// What the upstream replies on its connections, one after another. After them it replies nothing.
+    /// What the upstream replies on each of its connections, in order. On further connections it replies nothing.
     pub upstream: &'static [&'static str],
     /// The indices, from 0, of the calls to the upstream that fail.
     pub failing_calls: &'static [u64],
     /// One item for each poll of the upstream after the first. The poll starts when this number of answers was sent on
     /// links.
     pub turns: &'static [u64],
-    /// How the keeper fails, which stores the commands of an upstream.
+    /// How the keeper that stores the commands of an upstream fails.
     pub keeping: Keeping,
     /// The exit code.
     pub code: u8,

@@ -1,5 +1,6 @@
-//! Test doubles for an edge. Three of them share event counters: links (connections), a door (it accepts links) and a
-//! pace (it decides when a repeated job takes its next turn). A fourth creates failing keepers (stores of texts).
+//! Test doubles for the program's endpoints. Three of them share event counters: links (connections), a door (it accepts
+//! links) and a pace (it decides when a repeated job takes its next turn). A fourth creates failing keepers (stores of
+//! texts).
 ghost use Rattle.std.specs.Prelude.{◌≡◌, ◌≤◌};
 
 use std::alloc::Global;

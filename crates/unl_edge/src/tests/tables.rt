@@ -240,7 +240,7 @@ const NUMBER_2: &str = concat!(
     r#"{"number":2}"#,
 );
 
-/// The reply with the first version, of the upstream and of the edge that polls it.
+/// The reply of the upstream, and of the edge that polls it, with the first version.
 const M_IS_IN_A: &str = concat!(
     "HTTP/1.1 200 OK\r\nContent-Type: application/json\r\nContent-Length: 216\r\nETag: \"0000000000000000-1-0-1\"\r\n\r\n",
     r#"{"events":[{"eventId":1,"features":[{"dependencies":[],"enabled":true,"impressionData":false,"name":"m","#,
@@ -276,7 +276,7 @@ const MOVING_LINK: Script = Script {
     answers: &[NUMBER_1, M_IS_IN_A, NUMBER_2, M_IS_IN_B],
 };
 
-/// A link that asks an edge for the changes, and for those after them once the second turn has ended.
+/// A link that asks an edge for the changes, and for the later changes once the second turn has ended.
 const CHANGES_LINK: Script = Script {
     arrivals: &[
         Arrival {

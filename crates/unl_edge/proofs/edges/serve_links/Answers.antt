@@ -3,8 +3,9 @@ use Rattle.std.specs.Prelude.{is_ok}
 use Rattle.unl_base.proofs.Listening.{listens_after}
 use Rattle.unl_edge.specs.EdgeServices.{service_at}
 use Rattle.unl_edge.proofs.ServingEachLink.{serves_at}
-use Rattle.unl_edge.proofs.Closing.{port_of_links, closes_at, failed_ends, hands_links, hands_none, listened_at_last, listened_nowhere}
+use Rattle.unl_edge.proofs.Closing.{port_of_links, closes_at, failed_ends, hands_links, hands_none, listened_at_last}
 use Rattle.unl_edge.proofs.Closing.{none_served, once_err, once_ok, stopped_early, printed_ends}
+use Rattle.unl_upstream.proofs.AfterLines.{listened_nowhere}
 use Rattle.unl_edge.proofs.edges.serve_links.Goals as goal
 
 pub serve_service-requires-clause-listens : goal.serve_service-requires-clause-listens

@@ -1,6 +1,7 @@
 use Rattle.std.proofs.Common.{rules}
 use Rattle.unl_words.specs.OwnBook.{own_book}
-use Rattle.unl_edge.proofs.Commands.{is_new, environments_are_different}
+use Rattle.unl_upstream.proofs.NewKeepers.{is_new}
+use Rattle.unl_edge.proofs.Commands.{environments_are_different}
 use Rattle.unl_edge.proofs.upstreams.begin.Goals as goal
 
 pub new-requires-clause-different : goal.new-requires-clause-different

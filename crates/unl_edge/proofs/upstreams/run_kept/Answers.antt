@@ -2,7 +2,8 @@ use Rattle.std.proofs.Common.{◌≢◌, ◌∙◌, ap, refl}
 use Rattle.std.specs.Prelude.{option_and_then}
 use Rattle.unl_base.specs.Faults.{Rose}
 use Rattle.unl_keeper.specs.State.{kept_rows}
-use Rattle.unl_edge.proofs.Commands.{ends_kept, never_failed, rose_before}
+use Rattle.unl_upstream.proofs.NewKeepers.{never_failed, rose_before}
+use Rattle.unl_edge.proofs.Commands.{ends_kept}
 use Rattle.unl_edge.proofs.upstreams.run_kept.Goals as goal
 
 pub returns-in-Ok-clause-ends : goal.returns-in-Ok-clause-ends

@@ -2,12 +2,11 @@ use Rattle.std.proofs.Common.{◌≡◌, ap, false, inl, refl, rules, true}
 use Rattle.std.specs.Prelude.{is_ok}
 use Rattle.unl_base.proofs.Listening.{listens_after}
 use Rattle.unl_base.specs.Doors.{DoorState}
-use Rattle.unl_edge.specs.Upstreams.{upstream_facing}
+use Rattle.unl_upstream.specs.Running.{upstream_facing}
 use Rattle.unl_keeper.specs.State.{HasKept}
 use Rattle.unl_upstream.specs.Kept.{kept_state}
-use Rattle.unl_edge.proofs.Closing.{listened_nowhere}
-use Rattle.unl_edge.proofs.Commands.{serves_none}
-use Rattle.unl_edge.proofs.upstreams.serve_links.Goals as goal
+use Rattle.unl_upstream.proofs.AfterLines.{listened_nowhere, serves_none}
+use Rattle.unl_upstream.proofs.running.serve_links.Goals as goal
 
 pub serve_kept_door-requires-clause-listening : goal.serve_kept_door-requires-clause-listening
 serve_kept_door-requires-clause-listening g c =

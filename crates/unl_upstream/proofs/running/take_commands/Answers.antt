@@ -1,9 +1,9 @@
 use Rattle.std.proofs.Common.{refl, rules}
-use Rattle.unl_edge.specs.Upstreams.{upstream_facing}
+use Rattle.unl_upstream.specs.Running.{upstream_facing}
 use Rattle.unl_keeper.specs.State.{HasKept}
 use Rattle.unl_upstream.specs.Kept.{kept_state}
-use Rattle.unl_edge.proofs.Commands.{after_lines, silent_at}
-use Rattle.unl_edge.proofs.upstreams.take_commands.Goals as goal
+use Rattle.unl_upstream.proofs.AfterLines.{after_lines, silent_at}
+use Rattle.unl_upstream.proofs.running.take_commands.Goals as goal
 
 pub returns-in-Ok-clause-ends : goal.returns-in-Ok-clause-ends
 returns-in-Ok-clause-ends g c =

@@ -3,10 +3,10 @@ use Rattle.std.proofs.Common.{refl, subst}
 use Rattle.unl_upstream.specs.contracts.reopening.ReopenFault as faults
 use Rattle.unl_upstream.specs.declared.reopening.ReopenFault.{ReopenFault}
 use Rattle.unl_upstream.specs.Kept.{kept_state}
-use Rattle.unl_edge.specs.Upstreams.{row_line}
+use Rattle.unl_upstream.specs.Ends.{row_line}
 use Rattle.unl_input.specs.Refusal.{WritesLine}
-use Rattle.unl_edge.proofs.Commands.{bad_row, no_row_there}
-use Rattle.unl_edge.proofs.upstreams.run_reopened.Goals as goal
+use Rattle.unl_upstream.proofs.AfterLines.{bad_row, no_row_there}
+use Rattle.unl_upstream.proofs.running.run_reopened.Goals as goal
 
 pub returns-in-Err-BadRow-clause-ends : goal.returns-in-Err-BadRow-clause-ends
 returns-in-Err-BadRow-clause-ends g c =

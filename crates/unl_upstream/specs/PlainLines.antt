@@ -2,7 +2,7 @@
 use Rattle.std.specs.Prelude.{ℕ, List, [], codes, Ok, Err}
 use Rattle.unl_documents.specs.FaultText.{fault_text}
 use Rattle.unl_documents.specs.Reading.{Reading}
-use Rattle.unl_input.specs.Taken.{LineResult}
+use Rattle.unl_input.specs.Taken.{LineResult, Taking}
 use Rattle.unl_upstream.specs.declared.command.Command.{Command}
 use Rattle.unl_upstream.specs.declared.refusal.CommandRefusal.{CommandRefusal}
 use Rattle.unl_upstream.specs.declared.refusal.CommandRefusal.TheVariants.{NoSuchEnvironment, NoSuchFeature, NoSuchSegment, TooMany, Memory}
@@ -30,3 +30,7 @@ obeyed_by up (Err fault) = Err (fault_text fault)
 -- the effect of a line on an upstream without a keeper
 unfoldable pub obeyed_line : UpstreamState → List ℕ → LineResult UpstreamState
 obeyed_line up line = obeyed_by up (command_in line)
+
+-- the effect of a line on an upstream without a keeper, whatever the line's number
+abbrev pub obeying : Taking UpstreamState
+obeying number up line = obeyed_line up line

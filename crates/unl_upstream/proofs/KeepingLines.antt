@@ -3,8 +3,7 @@ use Rattle.std.proofs.Common.{◌≡◌, ◌<◌, ◌≤◌, ◌+◌, ◌∙◌,
 use Rattle.std.specs.Prelude.{codes, option_map}
 use Rattle.std.proofs.lemmas.Bool.Decides.{nat_tests}
 use Rattle.unl_documents.specs.Reading.{Reading}
-use Rattle.unl_edge.specs.Keeping.{KeptLines, SpellKept, kept_as, kept_by, kept_line, keeping, refusal_name, with_command}
-use Rattle.unl_edge.specs.Upstreams.{obeying}
+use Rattle.unl_upstream.specs.KeptLines.{KeptLines, SpellKept, kept_as, kept_by, kept_line, keeping, refusal_name, with_command}
 use Rattle.unl_input.specs.Laws.{IsSilent}
 use Rattle.unl_input.specs.Lines.{lines}
 use Rattle.unl_input.specs.Reading.{longest_line}
@@ -13,7 +12,7 @@ use Rattle.unl_input.proofs.Silent.{prints_cause_alone, within_limits_of}
 use Rattle.unl_upstream.specs.Command.{command_in}
 use Rattle.unl_upstream.specs.History.{accepted, after_commands, if_accepted, up_after}
 use Rattle.unl_upstream.specs.Kept.{most_rows, with_room}
-use Rattle.unl_edge.specs.PlainLines.{command_refusal_name, obeyed_as, obeyed_by, obeyed_line}
+use Rattle.unl_upstream.specs.PlainLines.{command_refusal_name, obeyed_as, obeyed_by, obeyed_line, obeying}
 use Rattle.unl_upstream.specs.Upstream.{AppliedCommand, CommandResult, UpstreamState, apply_command, refused_as}
 use Rattle.unl_upstream.proofs.Carrying.{both_behind}
 use Rattle.unl_upstream.specs.declared.command.Command.{Command}
@@ -22,8 +21,6 @@ use Rattle.unl_upstream.specs.declared.refusal.CommandRefusal.TheVariants as pla
 use Rattle.unl_upstream.specs.declared.refusal.KeepCommandRefusal.{KeepCommandRefusal}
 use Rattle.unl_upstream.specs.declared.refusal.KeepCommandRefusal.TheVariants.{NoSuchEnvironment, NoSuchFeature}
 use Rattle.unl_upstream.specs.declared.refusal.KeepCommandRefusal.TheVariants.{NoSuchSegment, TooMany, KeeperFull, Memory}
-
--- ---- one command
 
 -- ---- lines that print nothing
 

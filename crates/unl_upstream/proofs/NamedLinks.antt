@@ -1,13 +1,13 @@
 -- The commands that links give to an upstream with its keeper, which are kept.
 use Rattle.std.proofs.Common.{◌≡◌, ℕ, ◌++◌, ◌∙◌, List, Some, None, refl, sym, ap, subst, arith}
 use Rattle.std.specs.Prelude.{option_map}
-use Rattle.unl_edge.specs.Upstreams.{UpstreamFacing, NamesUpstreamLinks}
 use Rattle.unl_keeper.specs.State.{HasKept}
 use Rattle.unl_server.specs.Handling.{Coming}
 use Rattle.unl_server.specs.Linked.{ServesLinks, linking}
 use Rattle.unl_upstream.specs.declared.command.Command.{Command}
 use Rattle.unl_upstream.specs.Kept.{Carries, KeptState, acknowledged, kept_commands}
 use Rattle.unl_upstream.specs.KeptLinks.{IsNamed, LinkServed, Linked, AllLinksEffect}
+use Rattle.unl_upstream.specs.Running.{UpstreamFacing, NamesUpstreamLinks}
 use Rattle.unl_upstream.specs.Served.{draws_after}
 use Rattle.unl_upstream.proofs.Carrying.{both_behind, carries_all}
 use Rattle.unl_upstream.proofs.KeptNaming.{links_are_named}

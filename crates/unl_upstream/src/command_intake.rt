@@ -1,18 +1,20 @@
 //! Reads commands from the lines of an upstream's input. Each command is applied to the upstream and stored by its
 //! keeper, an append-only store of commands.
-ghost use Rattle.std.specs.Prelude.{◌≡◌, true, IfOk};
-ghost use Rattle.unl_documents.specs.Reading.{Gives};
-ghost use Rattle.unl_edge.specs.Keeping.{kept_one, refusal_name};
+ghost use Rattle.std.specs.Prelude.{◌≡◌};
 ghost use Rattle.unl_input.specs.Taking.{TakesLine};
-ghost use Rattle.unl_upstream.specs.Command.{IsValidCommand, command_in};
+ghost use Rattle.unl_upstream.specs.Command.{IsValidCommand};
+ghost use Rattle.unl_upstream.specs.KeptLines.{kept_one, refusal_name};
 
+use crate::command::Command;
+use crate::keeping::keep;
+use crate::reading::read_command_bytes;
+use crate::refusal::KeepCommandRefusal;
+use crate::upstream::Upstream;
 use std::alloc::Global;
 use std::marker::Model;
-use unl_documents::parsing::read_json;
 use unl_documents::{BadDocument, Text, fault_text};
 use unl_input::{LineProcessor, LineRefusal};
 use unl_keeper::Keeper;
-use unl_upstream::{Command, KeepCommandRefusal, Upstream, keep, read_command};
 
 /// An upstream, the opened keeper of its commands, and whether the keeper has failed at a line.
 #[derive(Drop)]
@@ -27,7 +29,7 @@ pub(crate) struct CommandIntake<K: Keeper> {
 
 impl<K: Keeper> Model for CommandIntake<K> {
     ghost use Rattle.std.specs.Prelude.{◌≡◌, ◌≢◌, false, true};
-    ghost use Rattle.unl_edge.specs.Keeping.{KeptLines, kept_lines_of};
+    ghost use Rattle.unl_upstream.specs.KeptLines.{KeptLines, kept_lines_of};
     ghost use Rattle.unl_upstream.specs.Kept.{kept_state};
 
     ghost Value = { KeptLines };
@@ -42,7 +44,7 @@ impl<K: Keeper> Model for CommandIntake<K> {
 /// command can't be read or is refused; the cause is the first fault of the document or the name of the refusal. If the
 /// keeper fails, `failed` is set and no further line is processed, as if memory had run out.
 impl<K: Keeper> LineProcessor for CommandIntake<K> {
-    ghost use Rattle.unl_edge.specs.Keeping.{kept_line};
+    ghost use Rattle.unl_upstream.specs.KeptLines.{kept_line};
 
     type Desk = CommandIntake<K>;
 
@@ -50,31 +52,19 @@ impl<K: Keeper> LineProcessor for CommandIntake<K> {
 
     ghost fits = { λ number kept_lines. Unit {0} };
 
-    #[tactic(auto, unfolding(crate::specs::Keeping::kept_line))]
+    #[tactic(auto, unfolding(crate::specs::KeptLines::kept_line))]
     fn take(
         alloc: Global,
         desk: &mut CommandIntake<K>,
         _number: u64,
         line: &[u8],
     ) -> Result<Vec<u8>, LineRefusal> {
-        match read_line(alloc, line) {
+        match read_command_bytes(alloc, line) {
             Ok(command) => take_command(alloc, desk, &command),
             Err(BadDocument::Memory) => Err(LineRefusal::Memory),
             Err(fault) => Err(LineRefusal::Cause(Text::from(fault_text(alloc, &fault)?))),
         }
     }
-}
-
-/// Reads the command of a line.
-#[tactic(auto, unfolding(unl_upstream::specs::Command::command_in))]
-fn read_line(alloc: Global, line: &[u8]) -> Result<Command, BadDocument>
-    ensures gives { Gives result (command_in line.now) }
-    ensures valid { IfOk result IsValidCommand }
-{
-    let Some(value) = read_json(alloc, line)? else {
-        return Err(BadDocument::NotJson);
-    };
-    read_command(alloc, &value)
 }
 
 /// Keeps a command and prints nothing. Sets `failed` if the keeper failed.
