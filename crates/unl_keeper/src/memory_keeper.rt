@@ -149,7 +149,8 @@ impl MemoryKeeper {
         Ok(())
     }
 
-    /// If `leaves`, sets the row after the kept rows, as a put does that writes its text and then fails.
+    /// If `leaves`, stores `row` in `past`, the row that a failed put wrote and that is not among the kept rows. Otherwise
+    /// does nothing.
     fn leave(&mut self, leaves: bool, row: Text)
         ensures { self.new ≡ record self.old { past = if leaves then Some row else self.old.past } }
     {
