@@ -38,7 +38,8 @@ pub(crate) struct Connection<S: Read + Write + OpenStream + Drop> {
     pub ended: bool,
     /// Whether the connection will be closed once all bytes are sent.
     pub closing: bool,
-    /// When its current phase began or when bytes were last sent, whichever is later.
+    /// When its current phase began or when bytes were last sent, whichever is later. A request that becomes whole doesn't
+    /// renew it.
     pub since: Option<Instant>,
     /// Whether this side was shut down: nothing more is sent.
     is_shut: bool,
@@ -386,8 +387,8 @@ impl<S: Read + Write + OpenStream + Drop> Connection<S> {
         ensures kept { Keeps (coming self.old.received (S.remaining self.old.stream))
             (coming self.new.received (S.remaining self.new.stream)) }
     {
-        // The end of the stream was already read. The loop reads on after an unfinished request to find this end,
-        // because no further event reports that the client has shut down its side.
+        // The end of the stream was already read, so there is nothing more to read. (The caller reads again after a
+        // piece that leaves the request unfinished: if the client has shut down its side, no later event says so.)
         if self.ended {
             return Ok(false);
         }

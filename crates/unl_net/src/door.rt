@@ -83,7 +83,7 @@ impl<N: Net + Clock + Eprint + Wait + Copy + Drop> RealDoor<N> {
     }
 }
 
-/// Waits for the next link, and returns whether it is the last one.
+/// Waits for the next link. Returns it, and whether it is the last one.
 ///
 /// # Errors
 /// Out of memory. If accepting or waiting for events failed for good: the error of that failure, once no connection is
@@ -112,7 +112,7 @@ fn next_link<N: Net + Clock + Eprint + Wait + Copy + Drop>(
     next_link_or_fault(alloc, net, listener, reactor, accepting, reports)
 }
 
-/// Waits for the next link of a reactor, and returns whether it is the last one.
+/// Waits for the next link of a reactor. Returns it, and whether it is the last one.
 ///
 /// # Errors
 /// As [`next_link`].
@@ -136,7 +136,7 @@ fn next_link_or_fault<N: Net + Clock + Eprint + Wait + Copy + Drop>(
     Ok(next)
 }
 
-/// Waits for the next link of a reactor, and returns whether it is the last one. `None`: no connection is left and no
+/// Waits for the next link of a reactor. Returns it, and whether it is the last one. `None`: no connection is left and no
 /// more are accepted. No connection is lost: each one that the reactor had before, that was accepted meanwhile, or that
 /// a link returned, is now the link, waits, is ready, or was counted as ended.
 ///
@@ -236,8 +236,8 @@ fn accept_more<N: Net + Clock + Eprint + Wait + Copy + Drop>(
     reports.count_arrived(count);
 }
 
-/// Whether the door is finished: no more connections are accepted, none waits or is ready, and it need not wait for a link to give one
-/// back.
+/// Whether the door is finished: no more connections are accepted, none waits or is ready, and the door need not wait for
+/// the links that are out ([`Reactor::needs_no_link`] says when).
 #[tactic(auto, using(crate::proofs::Accounting::unchanged))]
 fn is_finished<N: Net + Clock + Eprint + Wait + Copy + Drop>(
     net: &N,
@@ -255,7 +255,7 @@ fn is_finished<N: Net + Clock + Eprint + Wait + Copy + Drop>(
     if !reactor.needs_no_link(moment(net)) {
         return false;
     }
-    // Links that have ended by now gave their connections back.
+    // A link may have given its connection back since the last look: such a connection is taken now, so that it isn't missed.
     take_back(net, reactor, reports);
     reactor.is_empty()
 }
@@ -312,7 +312,7 @@ fn wait<N: Net + Clock + Eprint + Wait + Copy + Drop>(
     }
 }
 
-/// How long the door waits for an event, in milliseconds.
+/// The longest time that the door waits for an event now, in milliseconds.
 fn wait_limit<S: Read + Write + OpenStream + AsRawFd + Drop>(
     reactor: &Reactor<S>,
     accepting: &Accepting,
@@ -362,7 +362,8 @@ fn hand_out<N: Net + Clock + Eprint + Wait + Copy + Drop>(
     Ok(Some((link, is_last)))
 }
 
-/// Ends the connections whose time is over, and logs the counts that are due.
+/// Ends the connections whose time is over. Logs how many connections were cut off and how many server errors there
+/// were, if it is time to log them.
 #[tactic(auto, using(crate::proofs::Accounting::none_arrived))]
 fn sweep_and_log<N: Net + Clock + Eprint + Wait + Copy + Drop>(
     net: N,
