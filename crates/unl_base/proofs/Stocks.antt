@@ -59,7 +59,7 @@ gone_view links given back left more stocked =
     let out : given + 1 - back ≡ given - back + 1 = omega (arith, stocked.within) in
     rw (drop-set-lt (given + 1) links given left (omega arith), take-set-le back links given left stocked.within, out, drop_more links given None more) refl
 
--- If an index is left, the list of links to come isn't empty.
+-- If `given` is an index of the list, the list of links to come isn't empty.
 pub some_to_come : (links : List (Option MemoryLinkState)) (given : ℕ) → given < length links → map to_come (drop given links) ≡ [] → ⊥
 some_to_come links given more none =
     let empty : length (map to_come (slice_index_or links given None ∷ drop (given + 1) links)) ≡ 0 = ap length (rw (drop_more links given None more) at none) in

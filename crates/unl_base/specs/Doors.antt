@@ -72,7 +72,7 @@ Accepts None old new = IsClosed old × (new ≡ old)
 Accepts (Some link) old new = IsOpenDoor old × (new ≡ handing_out new.closed old)
 
 -- The state of a link that was just handed out. `door` is the state of the door before that. The link gives its reader the bytes of
--- the first item of `door.links`, has sent nothing and has a fault count of 0.
+-- the first item of `door.links`, has sent nothing (both as far as observable) and has a fault count of 0.
 pub record IsFresh (door : DoorState) (left sent : Option (List ℕ)) (faults : ℕ) : Type 0 where
   pub gives : left ≡ option_map next_of door.links
   pub silent : sent ≡ option_map (λ _. []) door.returned

@@ -1,4 +1,5 @@
--- The state of a peer. An optional field that isn't observable is `None`.
+-- The state of a peer: a program's connection to a server, opened again for each exchange. An optional field that isn't observable is
+-- `None`.
 use Rattle.std.specs.Io.KnownBytes.{ReadConsumes, WriteAppends}
 use Rattle.std.specs.Prelude.{◌≡◌, Bool, true, false, List, [], ◌∷◌, ◌++◌, Option, None, ℕ, Result, Ok, IfNone, IfSome}
 use Rattle.std.specs.Prelude.{drop, length, option_and_then, option_map}
@@ -33,7 +34,7 @@ after_connect peer = record {
   replies = option_map (λ list. drop 1 list) peer.replies;
 }
 
--- The state after a failed connect: there is no connection, and nothing to read.
+-- The state after a failed connect: there is no connection, and nothing to read. The bytes sent and the replies are unchanged.
 abbrev pub after_failed_connect : PeerState → PeerState
 after_failed_connect peer = record peer { connected = false; left = option_map (λ _. []) peer.left }
 

@@ -14,8 +14,8 @@ use std::thread::{Promise, PromisedHandle, Scope, Threads};
 ///
 /// # Errors
 ///
-/// `NotStarted`: a thread can't be started. `Memory`: out of memory for the list of jobs. Either way `here` is
-/// cancelled, and the jobs that were already started are joined and dropped.
+/// `NotStarted`: a thread can't be started. `Memory`: out of memory for the list of jobs or of handles. Either way
+/// `here` is cancelled, the jobs that were already started run to their end, and all jobs are dropped.
 pub fn run_concurrently<R: Threads + Wait, J: Job + Send + Drop, M: Job>(
     rt: &R,
     jobs: Vec<J>,
@@ -73,7 +73,7 @@ impl<'a, M: Job> ScopedWork for Lent<'a, M> {
     }
 }
 
-/// Does nothing at run time. For the borrow checker, it ties a reference to the variable that was borrowed.
+/// Does nothing. A call ends the borrow of the variable that `x` refers to, with the value that `x` has.
 fn take_back<T>(x: &mut T)
     ensures { x.new ≡ x.old }
 {}
@@ -134,7 +134,8 @@ fn run_around<R: Threads + Wait, J: Job + Send + Drop, E: ScopedWork + Drop>(
 ///
 /// # Errors
 ///
-/// The reason why not all jobs were started, and the handles of those that were.
+/// Why the call stopped before all jobs were started and listed, and the handles in the list. If the list can't grow,
+/// the handle of the last job started is dropped; the scope waits for that job.
 fn start_all<'s, X, J: Job + Send + Drop + 's>(
     scope: &Scope<'s, X>,
     jobs: Vec<J>,

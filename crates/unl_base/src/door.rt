@@ -23,14 +23,14 @@ pub trait Door {
     ///
     /// # Errors
     ///
-    /// `Failed`: it can't listen at the port. The fault is counted; nothing else changes.
+    /// `Failed`: the door can't listen at the port. The fault is counted; nothing else changes.
     fn listen(&mut self, port: u16) -> Result<(), Failed>
         ensures listens { state self.new ≡ listening_at port (is_ok result) (state self.old) }
         ensures cause { HasCause (faults self.old) (faults self.new) result }
         ensures still { OnOk result (faults self.new ≡ faults self.old) };
 
     /// Waits for the next link and returns it. Returns `None` if and only if the door is closed. A new link has sent
-    /// nothing, and its fault count is 0.
+    /// nothing, and its fault count is 0. The door must be listening.
     ///
     /// # Errors
     ///
@@ -44,7 +44,7 @@ pub trait Door {
         ensures cause { HasCause (faults self.old) (faults self.new) result }
         ensures still { OnOk result (faults self.new ≡ faults self.old) };
 
-    /// Takes back a link that `accept` returned.
+    /// Takes back a link that `accept` returned. The fault count of the door is unchanged.
     fn give_back(&mut self, link: Self::L)
         requires { (state self.old).back < (state self.old).given }
         ensures returns { state self.new ≡ taking_back (Self.L.Sink.sent link) (Self.L.Source.faults link) (state self.old) }

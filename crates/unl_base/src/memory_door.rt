@@ -75,7 +75,7 @@ impl Stock {
         self.back += 1;
     }
 
-    /// The bytes sent by the link that was taken back at index `place`.
+    /// The bytes sent by the link that was taken back at index `place`; `None` if `place` or fewer were taken back.
     fn sent(&self, place: usize) -> Option<&[u8]>
         ensures { option_map (λ sent. sent.now) result ≡ option_map (λ link. link.0) (slice_get self.now.returned place) }
     {
@@ -121,8 +121,8 @@ impl MemoryDoor {
         }
     }
 
-    /// The bytes sent by the link that was returned at index `place`, counted from 0; `None` if `place` or fewer
-    /// links were returned.
+    /// The bytes sent by the link that was taken back at index `place`, counted from 0; `None` if `place` or fewer
+    /// links were taken back.
     pub fn sent(&self, place: usize) -> Option<&[u8]>
         ensures { option_map (λ sent. sent.now) result ≡ option_map (λ link. link.0) (slice_get self.now.stock.returned place) }
     {
@@ -140,7 +140,8 @@ impl Door for MemoryDoor {
 
     ghost faults = { λ door. door.calls.faults };
 
-    /// Fails on the calls listed in `failing`, and if there is no memory for the port. Either is counted as a fault.
+    /// Fails on the calls listed in `failing`, and if memory runs out for the list of ports. Each failure is counted as
+    /// a fault.
     fn listen(&mut self, port: u16) -> Result<(), Failed>
         ensures listens { self.new.ports ≡ (if is_ok result then self.old.ports ++ port ∷ [] else self.old.ports) }
         ensures stock { self.new.stock ≡ self.old.stock }

@@ -78,9 +78,9 @@ impl Model for MemoryPeer {
 
 impl MemoryPeer {
     /// A peer that isn't connected yet. Each successful connect gives the next of `replies`, or an empty reply after
-    /// the last. Whether connected or not, it takes writes while the bytes sent since the last connect fit into `room`.
-    /// The calls of `connect`, `read` and `write` are numbered together from 0. Those whose numbers are in `failing`
-    /// fail.
+    /// the last. Connected or not, the peer takes writes while the bytes sent since the last successful connect fit
+    /// into `room`. The calls of `connect`, `read` and `write` are numbered together from 0; those whose numbers are in
+    /// `failing` fail.
     ///
     /// # Errors
     ///
@@ -108,15 +108,15 @@ impl MemoryPeer {
         })
     }
 
-    /// The bytes written since the last connect.
+    /// The bytes written since the last successful connect.
     pub fn sent(&self) -> &[u8]
         ensures { result.now ≡ self.now.store.sent }
     {
         self.going.as_slice()
     }
 
-    /// The bytes written before the last successful connect: those written before the first connection, and then those
-    /// written on each earlier connection.
+    /// The bytes written before the last successful connect: a text for the time before the first connection, and then
+    /// one for each earlier connection. Empty if no connect has succeeded.
     pub fn earlier(&self) -> &[Vec<u8>]
         ensures { map (λ text. text.items) result.now ≡ self.now.earlier }
     {
@@ -134,7 +134,8 @@ impl Source for MemoryPeer {
 
     ghost other_parts = { λ peer. record (peer_of peer) { left = None } };
 
-    /// Reads as many bytes of the reply as fit into `room`. Fails exactly on the calls listed in `failing`.
+    /// Reads as many bytes of the reply as fit into `room`; none if not connected. Fails exactly on the calls
+    /// listed in `failing`.
     fn read(&mut self, room: &mut [u8]) -> Result<usize, Failed>
         requires { 0 < length room.old }
         ensures fits { IfOk result (λ n. n ≤ length room.new) }
@@ -163,8 +164,8 @@ impl Sink for MemoryPeer {
 
     ghost other_parts = { λ peer. record (peer_of peer) { sent = None } };
 
-    /// Takes all of `piece`. Fails exactly if the call is listed in `failing`, or if `piece` does not fit: the bytes
-    /// sent since the last connect and `piece` together exceed the `room` given to `new`. Takes nothing if it fails.
+    /// Takes all of `piece`. Fails exactly if the call is listed in `failing`, or if the bytes sent since the last
+    /// successful connect and `piece` together exceed the `room` given to `new`. Takes nothing if it fails.
     fn write(&mut self, piece: &[u8]) -> Result<usize, Failed>
         requires { 0 < length piece.now }
         ensures writes { WritesStore result piece.now self.old.calls self.new.calls self.old.store self.new.store }
@@ -201,8 +202,8 @@ impl Peer for MemoryPeer {
 
     ghost state = { peer_of };
 
-    /// Fails if the call is listed in `failing`, or if memory runs out while the bytes sent since the last connect are
-    /// copied to `earlier`. Each failure increments the fault count.
+    /// Fails if the call is listed in `failing`, or if memory runs out while the bytes sent since the last successful
+    /// connect are copied to `earlier`. Each failure increments the fault count.
     fn connect(&mut self) -> Result<(), Failed>
         ensures connects { OnOk result (peer_of self.new ≡ after_connect (peer_of self.old)) }
         ensures parts { OnErr result (peer_of self.new ≡ after_failed_connect (peer_of self.old)) }

@@ -8,7 +8,7 @@ pub trait Pace {
     /// The number of turns that remain; `None` if it isn't observable.
     ghost turns: { Self → Option ℕ };
 
-    /// Waits for the next turn and returns true. Returns false if and only if `turns` is known to be 0.
+    /// Waits for the next turn and returns true. Returns false if and only if `turns` is observable and 0.
     fn more(&mut self) -> bool
         ensures takes { turns self.new ≡ option_map (λ n. n - 1) (turns self.old) }
         ensures observable { IfSome (turns self.old) (λ n. result ≡ nat_lt 0 n) }

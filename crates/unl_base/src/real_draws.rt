@@ -13,7 +13,7 @@ use std::time::{Clock, SystemTime};
 const LAST_MOMENT: u64 = 100_000_000_000_000;
 
 /// Draws with the time of a clock and the words of a small generator, which isn't cryptographically secure. If the
-/// clock fails, a draw repeats the previous moment.
+/// clock fails, a draw repeats the last moment that was read, or has 0 if none was.
 #[derive(Drop)]
 pub struct RealDraws<C: Clock + Copy + Drop> {
     clock: C,
@@ -22,7 +22,7 @@ pub struct RealDraws<C: Clock + Copy + Drop> {
 }
 
 impl<C: Clock + Copy + Drop> RealDraws<C> {
-    /// Draws with the time of `clock`. The generator is seeded with the clock's current time.
+    /// Draws with the time of `clock`. The generator is seeded with the clock's current time, or 0 if the clock fails.
     pub fn new(clock: C) -> Self {
         let mut draws = RealDraws {
             clock,
@@ -34,7 +34,7 @@ impl<C: Clock + Copy + Drop> RealDraws<C> {
         draws
     }
 
-    /// Returns the clock's time, or the last one known if the clock fails, capped at `LAST_MOMENT`.
+    /// Returns the clock's time, or the last time that was read if the clock fails, capped at `LAST_MOMENT`.
     fn moment(&mut self) -> u64
         ensures limit { result ≤ 100000000000000 }
         ensures words { self.new.words ≡ self.old.words }
@@ -46,7 +46,8 @@ impl<C: Clock + Copy + Drop> RealDraws<C> {
     }
 }
 
-/// Reads the clock, in milliseconds since 1970. Returns `LAST_MOMENT` for a time that doesn't fit into a `u64`.
+/// Reads the clock, in milliseconds since 1970. Returns 0 for a time before 1970, `LAST_MOMENT` for a time that doesn't
+/// fit into a `u64`, and an error if the clock fails.
 fn moment_of<C: Clock + Copy + Drop>(clock: C) -> io::Result<u64> {
     let since = SystemTime::now(&clock)?
         .duration_since(SystemTime::UNIX_EPOCH)
@@ -69,7 +70,7 @@ impl<C: Clock + Copy + Drop> Draws for RealDraws<C> {
         }
     }
 
-    /// The result uses the same clock and a generator seeded by this one.
+    /// The result uses the same clock, and a generator that is seeded with the next two words of this one's generator.
     fn split(&mut self) -> Self {
         let state = self.words.next_u64();
         let stream = self.words.next_u64();

@@ -7,7 +7,7 @@ pub enum SpawnFault {
     /// A job couldn't be started. The spawner counted the fault.
     #[error("a job could not be started")]
     NotStarted,
-    /// Out of memory for the list of jobs. No fault was counted.
+    /// Out of memory for the list of jobs or of thread handles. No fault was counted.
     #[error("out of memory")]
     Memory,
 }

@@ -1,4 +1,4 @@
-//! A spawner, which runs jobs concurrently: each on its own thread, or all in turn on the caller's thread.
+//! A spawner, which runs jobs: each on its own thread, or all in turn on the caller's thread.
 ghost use Rattle.std.specs.Prelude.{◌≡◌, ◌≤◌, ℕ, IfOk, OnErr, OnOk};
 ghost use Rattle.std.specs.List.{AllZip};
 ghost use Rattle.unl_base.specs.Faults.{Rose};
@@ -35,7 +35,7 @@ impl NotStarted {
     }
 }
 
-/// Runs jobs concurrently.
+/// Runs jobs where `place` says.
 pub trait Spawner {
     /// The runtime that starts its threads.
     type Rt: Threads + Wait;
@@ -56,9 +56,9 @@ pub trait Spawner {
     ///
     /// # Errors
     ///
-    /// `NotStarted`: a job couldn't be started, and the fault is counted. `Memory`: out of memory for the list of jobs,
-    /// which is counted as no fault. Either way `here` was cancelled, the jobs already started have finished, and all jobs
-    /// are dropped.
+    /// `NotStarted`: a job couldn't be started, and the fault is counted. `Memory`: out of memory for the list of jobs
+    /// or of thread handles; no fault is counted. Either way `here` was cancelled, the jobs already started
+    /// have finished, and all jobs are dropped.
     final fn with<J: Job + Send + Drop, M: Job>(
         &mut self,
         jobs: Vec<J>,
