@@ -160,7 +160,7 @@ after_alike number (FeatureRemoved n name project ∷ es) s order keeps = later_
 after_alike number (SegmentUpdated n segment ∷ es) s order keeps = later_alike number s (SegmentUpdated n segment ∷ es) order keeps
 after_alike number (SegmentRemoved n id ∷ es) s order keeps = later_alike number s (SegmentRemoved n id ∷ es) order keeps
 
--- The index is still the index after the events.
+-- The index of the features before the events is also the index of those after them.
 pub still_index : (number : ℕ) (es : List Event) (s after : State) (index : List ProjectPlaces) → IsInOrder s → list_all (keeps_place s.features) es ≡ true
     → after ≡ state_after number es s → IsIndex s.features index → IsIndex after.features index
 still_index number es s after index order keeps is places project =

@@ -174,7 +174,7 @@ moved_parts c p ns low high is at =
     ap (drop (count_if (is_of p c.removed))) back ∙ ap (λ (n : ℕ). drop n (removed ++ high)) (length_if (is_of p c.removed) c.place) ∙ drop-append_seam removed high in
     λ i. prefix i ++ (place_if (is_of p c.inserted) c.place ++ map (shifted (count_of c.removed) (count_of c.inserted)) (rest i))
 
--- The list has one feature, of that project, if there is a project, and is empty otherwise. The feature is at `place`.
+-- If there is a project, the list is one feature of that project, at position `place`; otherwise the list is empty.
 pub record IsAt (place : ℕ) (project : Option (List ℕ)) (fs : List Feature) : Type 0 where
   pub count : length fs ≡ count_of project
   pub places : (p : List ℕ) → places_from place p fs ≡ place_if (is_of p project) place

@@ -7,8 +7,8 @@ use Rattle.std.specs.Option.{option_map_or}
 use Rattle.std.specs.Str.{bytes_eq}
 use Rattle.unl_compiled.specs.declared.index.ProjectPlaces.{ProjectPlaces}
 
--- A change at one position: a feature of project `removed` is removed there, and then one of project `inserted` is inserted.
--- Each is optional.
+-- A change at one position: a feature of project `removed` is removed there, and then one of project `inserted` is inserted. Either may be
+-- left out.
 pub record Change : Type 0 where
   pub place : ℕ
   pub removed : Option (List ℕ)
@@ -19,7 +19,7 @@ abbrev pub count_of : Option (List ℕ) → ℕ
 count_of None = 0
 count_of (Some project) = 1
 
--- The second project is present, and equals the first.
+-- The optional project is present, and equals the given one.
 abbrev pub is_of : List ℕ → Option (List ℕ) → Bool
 is_of project other = option_map_or (λ p. bytes_eq p project) other false
 
@@ -35,7 +35,7 @@ place_if so place = if so then place ∷ [] else []
 abbrev pub shifted : ℕ → ℕ → ℕ → ℕ
 shifted less more place = place - less + more
 
--- The positions less than `place` all come before the others.
+-- The positions less than `place` all come before the other positions.
 abbrev pub IsParted : ℕ → List ℕ → Type 0
 IsParted place places = IsPartitionedBy (λ n. nat_lt n place) places
 
@@ -64,7 +64,8 @@ AllMoved c (e ∷ es) (new ∷ news) = IsMoved c e new × AllMoved c es news
 AllMoved c [] (new ∷ news) = ⊥
 AllMoved c (e ∷ es) [] = ⊥
 
--- The entry to append: the inserted feature's project, if it isn't listed.
+-- The entry to append to the index, as a list: the inserted feature's project, with that feature's position. Empty if no feature is
+-- inserted or the project is listed.
 abbrev pub unlisted : Option (List ℕ) → ℕ → List ProjectPlaces → List ProjectPlaces
 unlisted None place index = []
 unlisted (Some project) place index =

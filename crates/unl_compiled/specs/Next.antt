@@ -16,14 +16,14 @@ state_from number s (FeatureRemoved n name project) es = fold_events (later numb
 state_from number s (SegmentUpdated n segment) es = fold_events (later number_of number (SegmentUpdated n segment ∷ es)) s
 state_from number s (SegmentRemoved n id) es = fold_events (later number_of number (SegmentRemoved n id ∷ es)) s
 
--- The state after a batch's events, applied to the state of version `number`. If the first event is a hydration, its state replaces
--- the old state, and all later events apply. Otherwise only the events with a number above `number` apply.
+-- The state after a batch's events. The state before is that of the version with the number `number`. If the first event is a hydration,
+-- its state replaces the state before, and all later events apply. Otherwise only the events with a number above `number` apply.
 abbrev pub state_after : ℕ → List Event → State → State
 state_after number [] s = s
 state_after number (e ∷ es) s = state_from number s e es
 
--- The event leaves each feature at its position and in its project: it updates a feature without a change of its project,
--- removes a feature that isn't there, or concerns a segment.
+-- The event leaves each feature at its position and in its project: it updates a feature without a change of the feature's project, removes
+-- a feature that isn't there, or concerns a segment.
 abbrev pub keeps_place : List Feature → Event → Bool
 keeps_place features (Hydration n state) = false
 keeps_place features (FeatureUpdated n feature) = option_map_or (λ p. bytes_eq p feature.project) (project_of feature.name features) false

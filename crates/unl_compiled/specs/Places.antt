@@ -20,7 +20,7 @@ places_from place project (f ∷ fs) =
 abbrev pub places_of : List ℕ → List Feature → List ℕ
 places_of project features = places_from 0 project features
 
--- The strategy at an index of the feature at an index.
+-- The strategy at index `strategy` of the feature at index `feature`, if there is one.
 abbrev pub strategy_at : State → ℕ → ℕ → Option Strategy
 strategy_at state feature strategy = option_and_then (λ f. slice_get f.strategies strategy) (slice_get state.features feature)
 

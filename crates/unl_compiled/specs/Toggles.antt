@@ -1,4 +1,4 @@
--- The body of the frontend endpoints: the toggles of a state, in the order of their names.
+-- The body of the frontend endpoints: the toggles of a state, in the order of the features' names.
 use Rattle.std.specs.Prelude.{ℕ, List, Bool, ◌||◌, filter_map, Option, Some, None, option_and_then, option_map, slice_get, if◌then◌else◌}
 use Rattle.serde_json.specs.Data.{Data, boolean, string, array, object, no_members}
 use Rattle.serde_json.specs.View.{items_of}
@@ -24,7 +24,7 @@ variant_data on v = object (
     with field.Name (string v.name)
     no_members))))
 
--- The JSON of a toggle: a feature and its evaluation, as a frontend client gets it.
+-- The JSON of a toggle: a feature and its evaluation, as a frontend client gets them.
 unfoldable pub toggle_data : Feature → Evaluation → Data
 toggle_data f e = object (
     with field.Enabled (boolean e.on) (
@@ -37,7 +37,7 @@ toggle_data f e = object (
 abbrev pub toggle_if : Bool → Feature → Evaluation → Option Data
 toggle_if all f e = if all || e.on then Some (toggle_data f e) else None
 
--- The toggle of a feature, evaluated over a state.
+-- As `toggle_if`, with the feature's evaluation over a state.
 unfoldable pub toggle_of : State → Bool → Fields → Moment → Feature → Option Data
 toggle_of state all context moment f = toggle_if all f (feature_evaluation state f context moment)
 
@@ -47,7 +47,7 @@ written_toggles toggles = object (
     with field.Toggles (array (items_of toggles))
     no_members)
 
--- The body for a state: all toggles, or those that are on.
+-- The body for a state: all toggles if `all`, otherwise only those that are on.
 unfoldable pub toggles_data : State → Bool → Fields → Moment → Data
 toggles_data state all context moment = written_toggles (filter_map (toggle_of state all context moment) state.features)
 
@@ -64,7 +64,8 @@ pub record ToggleQuery : Type 0 where
 abbrev pub visible : ToggleQuery → State
 visible query = view_of (sees query.projects) query.state
 
--- The toggle of a feature, if the query asks for it.
+-- The toggle of a feature, evaluated over the visible part, if the query asks for all toggles or the feature is on. The feature need
+-- not be visible.
 abbrev pub toggle_for : ToggleQuery → Feature → Option Data
 toggle_for query f = toggle_of (visible query) query.all query.context query.moment f
 
@@ -72,11 +73,11 @@ toggle_for query f = toggle_of (visible query) query.all query.context query.mom
 abbrev pub toggle_if_seen : ToggleQuery → Feature → Option Data
 toggle_if_seen query f = if sees query.projects f.project then toggle_for query f else None
 
--- The toggle of the feature at a position, if the query asks for it.
+-- As `toggle_for`, for the feature at a position; none if there is no such feature.
 abbrev pub toggle_at : ToggleQuery → ℕ → Option Data
 toggle_at query place = option_and_then (toggle_for query) (slice_get query.state.features place)
 
--- The toggles that the query asks for, in the order of their names.
+-- The toggles of the visible features, as far as the query asks for them, in the order of the features.
 abbrev pub toggles_for : ToggleQuery → List Data
 toggles_for query = filter_map (toggle_for query) (visible query).features
 

@@ -11,7 +11,8 @@ use std::alloc::Global;
 use unl_dependencies::Evaluation;
 use unl_documents::{Chunk, Feature, List, Memory, Shared};
 
-/// Takes toggles, one after the other. Fails only if out of memory, and may then have taken part of a toggle.
+/// Takes toggles, one after the other. A toggle is a feature and its evaluation, as a frontend client gets them. A sink
+/// fails only if out of memory, and may then have taken part of a toggle.
 pub(crate) trait ToggleSink {
     /// Relates a sink to its state after these toggles were appended.
     ghost appends: { List Data → Self → Self → Type 0 };
@@ -34,7 +35,8 @@ pub(crate) trait ToggleSink {
 }
 
 /// Appends the toggles that a query asks for, in the order of their names. If the query has exactly one project, the
-/// positions of its features are taken from the project index; otherwise each feature is checked.
+/// positions of this project's features are taken from the project index. Otherwise each feature is checked: it is
+/// visible if its project is among the query's.
 pub(crate) fn collect<S: ToggleSink>(
     sink: &mut S,
     alloc: Global,
@@ -48,7 +50,8 @@ pub(crate) fn collect<S: ToggleSink>(
     }
 }
 
-/// Appends the toggles of the features at these positions, as far as the query asks for them.
+/// Appends the toggles of the features at these positions, as far as the query asks for them. The features
+/// need not be visible.
 fn collect_at<S: ToggleSink>(
     sink: &mut S,
     alloc: Global,
@@ -63,7 +66,8 @@ fn collect_at<S: ToggleSink>(
     Ok(())
 }
 
-/// Appends the toggle of the feature at a position, if the query asks for it.
+/// Appends the toggle of the feature at a position, if there is one and the query asks for its toggle. The
+/// feature need not be visible.
 fn collect_place<S: ToggleSink>(
     sink: &mut S,
     alloc: Global,

@@ -53,7 +53,7 @@ impl CompiledFeature {
         self.document.get()
     }
 
-    /// The compiled constraints of the strategy at an index.
+    /// The compiled constraints of the strategy at an index, counted from 0. The strategy must exist.
     pub(crate) fn constraints(&self, place: usize) -> &List<Compiled>
         requires { place < length self.now.strategies }
         ensures { Some result.now ≡ option_map (λ s. s.constraints) (slice_get self.now.strategies place) }
@@ -61,7 +61,8 @@ impl CompiledFeature {
         &self.constraints.as_slice()[place]
     }
 
-    /// Whether the feature has a strategy at index `place`, and that strategy is active.
+    /// Whether the feature has a strategy at the index `place`, counted from 0, and that strategy is active. The
+    /// segments are in ascending order of their ids.
     #[tactic(auto, unfolding(unl_strategies::specs::Strategy::is_active))]
     pub(crate) fn is_active(
         &self,
@@ -94,8 +95,9 @@ impl CompiledFeature {
     }
 }
 
-/// Whether a context meets all constraints of a strategy (`constraints` are the compiled ones) and each segment that
-/// the strategy names. `now` is in milliseconds since 1970.
+/// Whether a context meets all constraints of a strategy (`constraints` are their compiled form) and each segment that
+/// the strategy names. A segment that is not among `segments` is not met. The segments are in ascending order of their
+/// ids. `now` is in milliseconds since 1970.
 fn is_eligible(
     alloc: Global,
     strategy: &Strategy,
@@ -127,7 +129,7 @@ impl Keyed for CompiledFeature {
     }
 }
 
-/// Compiles the constraints of each strategy.
+/// Compiles the constraints of each strategy, in order.
 fn compiled_each(alloc: Global, strategies: &[Strategy]) -> Result<List<List<Compiled>>, Memory>
     ensures { IfOk result (λ all. all ≡ map (λ s. s.constraints) strategies.now) }
 {

@@ -35,7 +35,7 @@ pub(crate) fn index_of(
 }
 
 /// Adds the features of a chunk to the index. `first` is the position of the chunk's first feature. Returns the
-/// position after its last one.
+/// position after that of the chunk's last feature.
 fn add_chunk(
     index: &mut List<ProjectPlaces>,
     alloc: Global,
@@ -60,7 +60,7 @@ fn next_place(place: usize) -> Result<usize, Memory>
     place.checked_add(1).ok_or(Memory)
 }
 
-/// Adds a position to the entry of a project. Adds an entry if the project isn't listed.
+/// Adds a position to those of a project. A project that isn't listed gets an entry.
 fn add(
     index: &mut List<ProjectPlaces>,
     alloc: Global,
@@ -77,7 +77,7 @@ fn add(
     index.get_mut(slot).places.push(place)
 }
 
-/// Adds a project with one position.
+/// Appends an entry for a project, with one position.
 pub(crate) fn add_project(
     index: &mut List<ProjectPlaces>,
     alloc: Global,
@@ -117,7 +117,7 @@ pub(crate) fn places_of<'a>(index: &'a [ProjectPlaces], project: &str) -> &'a [u
     &[]
 }
 
-/// The positions of the only project's features. `None` unless `projects` is exactly one project.
+/// If `projects` is exactly one named project, the positions of its features; otherwise `None`.
 pub(crate) fn places_of_one<'a>(
     index: &'a [ProjectPlaces],
     projects: &Projects,

@@ -1,5 +1,5 @@
 //! The project index after the events of a batch: for each project, the positions of its features in the list of all
-//! features. It is shared with the old index, adjusted, or rebuilt.
+//! features. The index before the batch is shared, adjusted or rebuilt.
 ghost use Rattle.std.specs.Prelude.{◌≡◌, [], ◌∷◌, false, true, IfOk, map, option_map};
 ghost use Rattle.std.specs.List.{list_all};
 ghost use Rattle.std.specs.Option.{option_map_or};
@@ -18,8 +18,9 @@ use std::alloc::Global;
 use unl_delta::Event;
 use unl_documents::{Feature, List, Memory, Shared, Text};
 
-/// The project index after a batch's events. `before` and `projects` are the parts and the index of version `number`;
-/// `after` are the parts after the events. The index is shared if no position and no project changes.
+/// The project index after a batch's events. `before` and `projects` are the parts and the index of the version with
+/// the number `number`; `after` are the parts after the events. The index is shared if each event leaves each feature
+/// at its position and in its project. Otherwise it is adjusted for a single event on a feature, or rebuilt.
 pub(crate) fn places_after(
     alloc: Global,
     number: u64,
@@ -52,8 +53,8 @@ pub(crate) fn all_places(
     Shared::new(alloc, index_of(alloc, parts.chunks())?)
 }
 
-/// As `places_after`, for one event. If it applies and puts or removes a feature, the positions after that feature shift
-/// by at most one; otherwise the index is rebuilt.
+/// As `places_after`, for one event. An event on a feature with a number above `number` inserts, replaces or removes
+/// that feature, and shifts later positions by at most one: the index is adjusted. After any other event it is rebuilt.
 fn places_after_one(
     alloc: Global,
     number: u64,
@@ -81,7 +82,7 @@ fn places_after_one(
     }
 }
 
-/// The project index after a feature is added or replaced.
+/// The project index after a feature is added, or replaces the feature with the same name.
 fn places_with(
     alloc: Global,
     feature: &Feature,
@@ -119,7 +120,7 @@ fn places_without(
     Shared::new(alloc, changed(alloc, projects.as_slice(), &change)?)
 }
 
-/// Whether each of the events leaves each feature at its position and in its project.
+/// Whether each of the events leaves each feature at its position and in its project, as `keeps_place` decides.
 fn keeps_places(parts: &Parts, events: &[Event]) -> bool
     requires { AreRising (map name_key parts.now.features) }
     ensures { result ≡ list_all (keeps_place parts.now.features) events.now }
@@ -133,7 +134,8 @@ fn keeps_places(parts: &Parts, events: &[Event]) -> bool
 }
 
 /// Whether the event leaves each feature at its position and in its project: it updates a feature without a change of
-/// its project, removes a feature that isn't there, or concerns a segment.
+/// the feature's project, removes a feature that isn't there, or concerns a segment. The event's number is not
+/// considered.
 fn keeps_place(parts: &Parts, event: &Event) -> bool
     requires { AreRising (map name_key parts.now.features) }
     ensures { result ≡ keeps_place parts.now.features event.now }

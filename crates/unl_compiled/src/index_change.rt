@@ -12,7 +12,7 @@ use std::marker::Model;
 use unl_documents::{List, Memory, Text};
 
 /// A change at one position: a feature of project `removed` is removed, and then one of project `inserted` is inserted.
-/// Each is optional.
+/// Either may be left out.
 #[derive(Drop)]
 pub(crate) struct Change<'a> {
     /// The position of the change in the list of all features.
@@ -36,7 +36,7 @@ impl<'a> Model for Change<'a> {
     } };
 }
 
-/// The index after a change.
+/// The project index after a change. It is right for each project whose positions in `index` ascend.
 pub(crate) fn changed(
     alloc: Global,
     index: &[ProjectPlaces],
@@ -50,7 +50,7 @@ pub(crate) fn changed(
     Ok(new)
 }
 
-/// The listed projects, with their positions after a change.
+/// The entries of the projects that are listed before the change, with their positions after it.
 fn changed_each(
     alloc: Global,
     index: &[ProjectPlaces],
@@ -80,7 +80,7 @@ fn changed_entry(
     })
 }
 
-/// Adds the inserted feature's project if it isn't listed.
+/// Appends an entry for the inserted feature's project to `new`, if the project isn't listed in `index`.
 fn push_unlisted(
     new: &mut List<ProjectPlaces>,
     alloc: Global,
@@ -110,7 +110,7 @@ fn push_project(
     add_project(new, alloc, project, place)
 }
 
-/// The positions of a project's features after a change.
+/// The positions of a project's features after a change. `places` are those until then, in ascending order.
 fn changed_places(
     alloc: Global,
     places: &[usize],
@@ -159,7 +159,7 @@ fn without_first(places: &[usize], goes: bool) -> &[usize]
     }
 }
 
-/// Appends the position if `so`.
+/// Appends the position if `so` is true.
 fn push_if(list: &mut Vec<usize>, so: bool, place: usize) -> Result<(), Memory>
     ensures { OnOk result (list.new.items ≡ list.old.items ++ place_if so place) }
 {
@@ -169,7 +169,8 @@ fn push_if(list: &mut Vec<usize>, so: bool, place: usize) -> Result<(), Memory>
     Ok(())
 }
 
-/// Shifts each position: `less` features before it are removed, and then `more` features are inserted before it.
+/// Shifts each of these positions: `less` features before it are removed, and then `more` features are inserted before
+/// it.
 fn all_shifted(
     alloc: Global,
     places: &[usize],
@@ -192,8 +193,8 @@ fn shift_all(places: &mut [usize], less: usize, more: usize) -> Result<(), Memor
     Ok(())
 }
 
-/// Shifts a position: `less` features before it are removed, and then `more` features are inserted before it. An overflow
-/// is reported as out of memory.
+/// Shifts a position: `less` features before it are removed, and then `more` features are inserted before it. An
+/// overflow of the position is reported as out of memory.
 fn shifted(place: usize, less: usize, more: usize) -> Result<usize, Memory>
     ensures { IfOk result (λ n. n ≡ shifted less more place) }
 {
@@ -210,7 +211,7 @@ fn count_of(project: Option<&Text>) -> usize
     }
 }
 
-/// Whether `found` is this project. False if it is `None`.
+/// Whether `found` is this project; false for `None`.
 pub(crate) fn is_project(found: Option<&Text>, project: &Text) -> bool
     ensures { result ≡ option_map_or (λ p. bytes_eq p project.now) (option_map (λ t. t.now) found.entry) false }
 {

@@ -16,8 +16,7 @@ use unl_delta::Event;
 use unl_delta::keyed::{put_in_chunks, put_in_place, without_in_chunks, without_in_place};
 use unl_documents::{Chunk, ChunkedList, Feature, List, Memory, Segment, Shared, State, TryClone};
 
-/// The features in ascending order of their names, and the segments in ascending order of their ids. In contracts the
-/// value is the state that they were compiled from.
+/// The compiled features and segments of a version. In contracts the value is the state that they were compiled from.
 #[derive(Drop)]
 pub(crate) struct Parts {
     /// The features, in ascending order of names.
@@ -62,14 +61,15 @@ impl Parts {
         self.features.chunks()
     }
 
-    /// The feature at a position, counted from 0.
+    /// The feature at a position, counted from 0, or `None` past the end.
     pub(crate) fn feature(&self, place: usize) -> Option<&CompiledFeature>
         ensures { option_map (λ f. f.now) result ≡ slice_get self.now.features place }
     {
         self.features.get(place)
     }
 
-    /// The compiled constraints of strategy number `strategy` of feature number `feature`. Both count from 0.
+    /// The compiled constraints of the strategy at index `strategy` of the feature at index `feature`. Both indexes
+    /// count from 0. The strategy must exist.
     pub(crate) fn constraints(&self, feature: usize, strategy: usize) -> &List<Compiled>
         requires { IsSome (strategy_at self.now feature strategy) }
         ensures { option_map (λ s. s.constraints) (strategy_at self.now feature strategy) ≡ Some result.now }
@@ -77,9 +77,10 @@ impl Parts {
         feature_at(&self.features, feature).constraints(strategy)
     }
 
-    /// The parts after a batch's events, applied to the parts of version `number`. If the first event is a hydration,
-    /// its state replaces these parts and all later events apply. Otherwise only the events above `number` apply.
-    /// Without a hydration, features and segments that no event names are shared with these parts.
+    /// The parts after a batch's events. These parts are those of the version with the number `number`. If the first
+    /// event is a hydration (a whole new state), its state replaces these parts, and all later events apply. Otherwise
+    /// only events whose number is greater than `number` apply. Without a hydration, features and segments that no
+    /// event names are shared with these parts.
     #[tactic(auto, unfolding(crate::specs::Next::state_after))]
     pub(crate) fn next(&self, alloc: Global, number: u64, events: &[Event]) -> Result<Parts, Memory>
         requires order { delta_state.IsInOrder self.now }
@@ -96,7 +97,7 @@ impl Parts {
     }
 }
 
-/// The feature at an index.
+/// The feature at an index, which must be less than the number of features.
 fn feature_at(features: &ChunkedList<CompiledFeature>, place: usize) -> &CompiledFeature
     requires { place < length features.now }
     ensures { Some result.now ≡ slice_get features.now place }
@@ -193,8 +194,8 @@ fn step_above(alloc: Global, parts: Parts, event: &Event, above: u64) -> Result<
     Ok(parts)
 }
 
-/// The parts after one event. Only the feature or segment that it names is recompiled; a hydration recompiles
-/// everything.
+/// The parts after one event. An update compiles only its feature or segment, a removal compiles nothing, and a
+/// hydration compiles everything.
 fn step(alloc: Global, parts: Parts, event: &Event) -> Result<Parts, Memory>
     requires { delta_state.IsInOrder parts }
     ensures { IfOk result (λ p. p ≡ delta_state.step event.now parts) }

@@ -1,4 +1,5 @@
-//! A query for toggles: the arguments of the frontend endpoints, and the compiled state that they are evaluated over.
+//! A query for toggles: the arguments of the frontend endpoints, and the compiled state that the query is answered
+//! from.
 ghost use Rattle.std.specs.Prelude.{◌≡◌, ◌||◌, All, IfOk, IfSome, filter_map, option_map, slice_get};
 ghost use Rattle.unl_compiled.specs.Toggles.{toggle_at, toggle_if_seen, toggles_for, visible};
 ghost use Rattle.unl_dependencies.specs.Evaluation.{feature_evaluation};
@@ -18,12 +19,13 @@ use unl_documents::{Chunk, Memory};
 use unl_strategies::Moment;
 use unl_tokens::Projects;
 
-/// A query for the toggles of a state's visible features. The state is valid, and the index is that of its features.
+/// A query for the toggles of a state's visible features. The state is valid, and `index` is the project index of its
+/// features.
 #[derive(Drop)]
 pub(crate) struct ToggleQuery<'a> {
     /// The compiled state.
     pub parts: &'a Parts,
-    /// The state's index by project.
+    /// For each project, the positions of its features in the state.
     pub index: &'a [ProjectPlaces],
     /// The projects whose features are visible.
     pub projects: &'a Projects,
@@ -54,7 +56,7 @@ impl<'a> Model for ToggleQuery<'a> {
 }
 
 impl<'a> ToggleQuery<'a> {
-    /// The positions of the visible features, if the query has exactly one project.
+    /// The positions of the visible features, if the query has exactly one project, otherwise `None`.
     pub(crate) fn places(&self) -> Option<&[usize]>
         ensures { IfSome result (λ places. filter_map (toggle_at self.now) places.now ≡ toggles_for self.now) }
     {
@@ -84,14 +86,15 @@ impl<'a> ToggleQuery<'a> {
         self.projects.sees(feature.document().project.as_str())
     }
 
-    /// Whether the query asks for the toggle of a feature with this evaluation.
+    /// Whether the query asks for all toggles, or the feature with this evaluation is on.
     pub(crate) fn asks_for(&self, evaluation: &Evaluation) -> bool
         ensures { result ≡ (self.now.all || evaluation.now.on) }
     {
         self.all || evaluation.on
     }
 
-    /// Evaluates a feature over the visible part of the state.
+    /// Evaluates a feature over the visible part of the state: a parent that is not visible counts as absent. The
+    /// feature itself need not be visible.
     pub(crate) fn evaluate(
         &self,
         alloc: Global,

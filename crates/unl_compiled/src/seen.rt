@@ -47,7 +47,7 @@ impl<'a> Model for Seen<'a> {
 }
 
 impl<'a> Seen<'a> {
-    /// The visible part of a valid state.
+    /// The visible part of a valid state. Nothing is copied.
     pub(crate) fn of(parts: &'a Parts, projects: &'a Projects) -> Seen<'a>
         requires { IsValidState parts.now }
         ensures view { result ≡ view_of (sees projects.now) parts.now }
@@ -88,7 +88,8 @@ impl<'a> Features for Seen<'a> {
     }
 }
 
-/// Finds a feature by its name, if its project is in `projects`. The features are in ascending order of their names.
+/// Finds a feature by its name, if the feature's project is in `projects`. The features are in ascending order of their
+/// names.
 pub(crate) fn seen_named<'a>(
     parts: &'a Parts,
     projects: &Projects,
@@ -140,8 +141,8 @@ pub(crate) fn feature_named<'a>(parts: &'a Parts, name: &str) -> Option<&'a Comp
     feature_among(parts.chunks(), name)
 }
 
-/// The position of the feature with this name, counted from 0, or where it would be inserted. The features are in
-/// ascending order of their names. An overflow of the position is reported as out of memory.
+/// The position of the feature with this name, counted from 0, or where the feature would be inserted. The features are
+/// in ascending order of their names. An overflow of the position is reported as out of memory.
 pub(crate) fn place_named(parts: &Parts, name: &str) -> Result<usize, Memory>
     requires { AreRising (map name_key parts.now.features) }
     ensures { IfOk result (λ place. place
@@ -173,8 +174,8 @@ fn first(chunks: &[Chunk<CompiledFeature>], place: usize) -> &[Chunk<CompiledFea
     &chunks[..place]
 }
 
-/// Finds a feature by its name in chunks whose names ascend. It can only be in the first chunk that doesn't end before
-/// the name.
+/// Finds a feature by its name in chunks whose features are in ascending order of their names. The feature can only be
+/// in the first chunk that doesn't end before the name.
 fn feature_among<'a>(
     chunks: &'a [Chunk<CompiledFeature>],
     name: &str,
@@ -199,8 +200,8 @@ fn chunk_at(
     Some(chunks.get(place)?.get())
 }
 
-/// The index of the chunk that has the name, or that it would be inserted into, by binary search. It is the number of
-/// chunks if all end before the name.
+/// The index of the first chunk that doesn't end before the name, the only one that can have a feature with the name,
+/// by binary search. The number of chunks if all end before the name.
 fn chunk_of(chunks: &[Chunk<CompiledFeature>], name: &str) -> usize
     requires rising { AreRising (map name_key (joined chunks.now)) }
     requires full { NoneIsEmpty chunks.now }
@@ -209,7 +210,8 @@ fn chunk_of(chunks: &[Chunk<CompiledFeature>], name: &str) -> usize
     chunks.partition_point(|chunk| ends_before(chunk.get().as_slice(), name))
 }
 
-/// Whether the features end before a name: the last one's name is less than it. False for no features.
+/// Whether the features end before a name: the name of the last feature is less than the name. False if there are no
+/// features.
 fn ends_before(features: &[Shared<CompiledFeature>], name: &str) -> bool
     ensures { result ≡ ends_before name_key name.now features.now }
 {
@@ -231,7 +233,7 @@ fn feature_in<'a>(
     feature_at(features, place_of(features, name), name)
 }
 
-/// The feature at an index, if it has the name.
+/// The feature at an index, if the feature has the name.
 fn feature_at<'a>(
     features: &'a [Shared<CompiledFeature>],
     place: usize,
@@ -246,7 +248,7 @@ fn feature_at<'a>(
     None
 }
 
-/// The position of a name, or where it would be inserted, by binary search. The names ascend.
+/// The position of a name, or where the name would be inserted, by binary search. The names ascend.
 fn place_of(features: &[Shared<CompiledFeature>], name: &str) -> usize
     requires { AreRising (map name_key features.now) }
     ensures { result ≡ prefix_len (λ f. is_lt (slice_cmp nat_cmp (name_key f) name.now)) features.now }

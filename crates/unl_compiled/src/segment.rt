@@ -64,7 +64,7 @@ impl Keyed for CompiledSegment {
     }
 }
 
-/// Compiles the constraints, in order.
+/// Compiles the constraints, in their order.
 pub(crate) fn compiled(alloc: Global, constraints: &[Constraint]) -> Result<List<Compiled>, Memory>
     ensures { IfOk result (λ all. all ≡ constraints.now) }
 {
@@ -75,8 +75,8 @@ pub(crate) fn compiled(alloc: Global, constraints: &[Constraint]) -> Result<List
     Ok(all)
 }
 
-/// Whether each id names one of the segments, and the context meets that segment. The segments are in ascending order
-/// of their ids. `now` is in milliseconds since 1970.
+/// Whether each id names one of the segments, and the context meets all constraints of that segment. The segments are
+/// in ascending order of their ids. `now` is in milliseconds since 1970.
 pub(crate) fn all_met(
     alloc: Global,
     ids: &[u64],

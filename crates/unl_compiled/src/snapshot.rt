@@ -66,12 +66,12 @@ impl Snapshot {
         Snapshot::of_parts(alloc, version, parts, projects)
     }
 
-    /// The snapshot of the next version: the version of this snapshot after `batch`. `place` is the environment's
-    /// place: its current version, which is the version of this snapshot, and whether only a hydration can apply. The
-    /// batch applies to the place (`Verdict::Apply`).
+    /// The snapshot of the next version: the version of this snapshot after `batch`. `place` has the current version of
+    /// the environment, which must be the version of this snapshot, and whether only a hydration (a whole new state)
+    /// can apply. The batch must apply to the place (`Verdict::Apply`).
     ///
     /// Compiled features and segments that no event of the batch names are shared with this snapshot. If the batch has
-    /// a hydration (a whole new state), nothing is shared.
+    /// a hydration, nothing is shared.
     ///
     /// # Errors
     /// `Memory`: out of memory.
@@ -107,7 +107,8 @@ impl Snapshot {
         self.version.copy()
     }
 
-    /// Finds a feature by its name. `None` if there is none, or its project is not in `projects`. Doesn't allocate.
+    /// Finds a feature by its name. `None` if there is none, or the feature's project is not in `projects`. Doesn't
+    /// allocate.
     pub fn feature(&self, name: &str, projects: &Projects) -> Option<&Feature>
         ensures found { option_map (λ f. f.now) result
             ≡ feature_named name.now (view_of (sees projects.now) self.now.state).features }
@@ -116,8 +117,8 @@ impl Snapshot {
         document_of(seen_named(&self.parts, projects, name))
     }
 
-    /// Evaluates the feature with this name. Only features whose project is in `projects` are visible, also as parents.
-    /// Returns `None` exactly if no visible feature has the name.
+    /// Evaluates the feature with this name. Only features whose project is in `projects` are visible: a parent
+    /// that isn't visible counts as absent. Returns `Ok(None)` exactly if no visible feature has the name.
     ///
     /// # Errors
     /// `Memory`: out of memory.
@@ -137,7 +138,8 @@ impl Snapshot {
     }
 
     /// The body of the frontend endpoints, as a JSON value: the toggles of the features whose project is in `projects`,
-    /// in the order of their names. If `all`, it has all of these toggles, otherwise only those that are on.
+    /// in the order of their names. If `all` is false, only the toggles that are on are in the body. As for `evaluate`,
+    /// a parent whose project is not in `projects` counts as absent.
     ///
     /// # Errors
     /// `Memory`: out of memory.
@@ -182,8 +184,8 @@ impl Snapshot {
         places_of(self.projects.get().as_slice(), project)
     }
 
-    /// The compiled constraints of strategy number `strategy` of feature number `feature` of the version's state, in
-    /// order. Both count from 0. Doesn't allocate.
+    /// The compiled constraints, in order, of the strategy at index `strategy` of the feature at index `feature` of the
+    /// version's state. Both indexes count from 0. The strategy must exist. Doesn't allocate.
     pub fn constraints(&self, feature: usize, strategy: usize) -> &List<Compiled>
         requires { IsSome (strategy_at self.now.state feature strategy) }
         ensures { option_map (λ s. s.constraints) (strategy_at self.now.state feature strategy) ≡ Some result.now }
@@ -235,7 +237,7 @@ impl Snapshot {
     }
 }
 
-/// The version of a place after a batch that applies to it.
+/// The version after a batch that applies to a place. `version` is the place's version.
 fn next_of(
     alloc: Global,
     version: &EnvVersion,
