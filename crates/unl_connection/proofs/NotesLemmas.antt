@@ -23,7 +23,7 @@ use Rattle.unl_connection.specs.Notes.{AnswersNothing, AnswersFromBoard, TakesDr
 abbrev pub Over : {S : Type 0} → (S → DeskNotes) → HandlerState S → Request → Reply → HandlerState S → Type 0
 Over seen = HandlesRequest (λ state request draw reply after. AnswersFromBoard (seen state) request draw reply (seen after))
 
--- a handler ran out of memory at an answer, and its notes and book stayed
+-- a handler ran out of memory at an answer, and its notes and book are unchanged
 abbrev pub RunsOutOver : {S : Type 0} → (S → DeskNotes) → HandlerState S → Request → HandlerState S → Type 0
 RunsOutOver seen = RunsOutOfMemory (λ state request draw after. AnswersNothing (seen state) (seen after))
 
@@ -51,7 +51,7 @@ Rise_to : (first last more : ℕ) (ones : List ServedOne) → FrontsRise first o
 Rise_to first last more [] rise up = omega (arith, rise, up)
 Rise_to first last more (one ∷ ones) rise up = (rise.0, Rise_to one.front last more ones rise.1 up)
 
--- an answer, and then those with further notes
+-- the effect of an answer and then of the answers with the notes `ones`
 Sums_more : (before middle : DeskNotes) (after : KnownDesk) (coming next coming_after : Option (List Draw × Draw)) (request : Request)
     (draw : Draw) (reply : Reply) (ones : List ServedOne) → TakesDraw coming draw next
     → (over : AnswersFromBoard before request draw reply middle) → Sums middle.desk after next coming_after ones
@@ -95,7 +95,7 @@ summed seen count before after (q ∷ qs) text (reply, middle, more, step, split
 
 -- ---- the notes as a conversation of their own
 
--- a desk that knows more boards still knows the board of the reply
+-- an answer of the handler meets `Notes`, for any `board_at` that keeps the boards that the desk knows
 noted_over : {S : Type 0} (seen : S → DeskNotes) (board_at : ℕ → Option Board) (before after : HandlerState S)
     (q : Request) (reply : Reply) → Keeps (seen after.state).desk.board_at board_at → Over seen before q reply after
     → Notes board_at (noted_of seen before) q reply (noted_of seen after)
@@ -112,7 +112,7 @@ noted_over seen board_at before after q reply keeps step = record {
       shows_revision histories step.given.board request kind ready represented shown;
 }
 
--- a chain of answers is a chain of notes
+-- if each answer of a chain meets `Over`, each meets `Notes`
 answered_over : {S : Type 0} (seen : S → DeskNotes) (board_at : ℕ → Option Board) (count : ℕ)
     (before after : HandlerState S) (qs : List Request) (text : List ℕ)
     → Keeps (seen after.state).desk.board_at board_at → AreAnswered (Over seen) count before qs text after
@@ -148,7 +148,7 @@ last_noted seen state after q (inl lacks) = inl (runs_out_noted seen state after
 last_noted seen state after q (inr (reply, step)) =
     inr (reply, noted_over seen (seen after.state).desk.board_at state after q reply (λ k board there. there) step)
 
--- the notes reflect the conversation
+-- `Notes` and `NotesNothing` hold of the notes wherever `Over` and `RunsOutOver` hold of the handler
 pub shows : {S : Type 0} (seen : S → DeskNotes) (before after : HandlerState S)
     → Shows (Over seen) (RunsOutOver seen) (Notes (seen after.state).desk.board_at) NotesNothing (noted_of seen) before after
 shows seen before after = record {
@@ -169,7 +169,7 @@ pub record ReflectsNotes
   pub drawn : DrawsAtLeast coming ones coming_after
   pub keeps : Keeps before.board_at after.board_at
 
--- no further draw was taken
+-- `ReflectsNotes`, if no draw was taken after the last answer
 reflects_same : (before after : KnownDesk) (coming coming_after : Option (List Draw × Draw)) (end : End) (ones : List ServedOne)
     → Sums before after coming coming_after ones → ReflectsNotes before coming end after coming_after ones
 reflects_same before after coming coming_after end ones sums = record {
@@ -179,14 +179,14 @@ reflects_same before after coming coming_after end ones sums = record {
   keeps = sums.keeps;
 }
 
--- the desk may have looked once more
+-- the looks, if memory ran out and the desk may have looked once more
 looked_more : (fronts middle after : Option (List ℕ)) (ones : List ServedOne) (end : End) → end ≡ Memory
     → Enters fronts (fronts_of ones) middle → EntersAtMostOnce middle after → LooksFor fronts ones end after
 looked_more fronts middle after ones end is looks (inl same) = inl (same ∙ looks)
 looked_more fronts middle after ones end is looks (inr (front, once)) =
     inr (is, front, Sends_more fronts middle after (fronts_of ones) (front ∷ []) looks once)
 
--- one further draw was taken
+-- `ReflectsNotes`, if memory ran out and one draw was taken after the last answer
 reflects_more : (before : KnownDesk) (middle after : DeskNotes) (coming next coming_after : Option (List Draw × Draw)) (end : End)
     (ones : List ServedOne) (draw : Draw) → end ≡ Memory → Sums before middle.desk coming next ones
     → TakesDraw next draw coming_after → AnswersNothing middle after → ReflectsNotes before coming end after.desk coming_after ones
@@ -213,7 +213,7 @@ reflects_next seen before middle after end ones are sums (inr (is, request, lack
     (reflects_more (seen before.state).desk (seen middle.state) (seen after.state) before.coming middle.coming after.coming end ones
     lacks.draw is sums lacks.taken lacks.ran_out)
 
--- the notes of a conversation that begins without any say what it did
+-- `ReflectsNotes` holds after a conversation that begins without notes
 pub reflects : {S : Type 0} (seen : S → DeskNotes) (before after : HandlerState S) (end : End) (count : ℕ)
     → (noted_of seen before).ones ≡ [] → Reaches (Over seen) (RunsOutOver seen) before end after count
     → ReflectsNotes (seen before.state).desk before.coming end (seen after.state).desk after.coming (noted_of seen after).ones

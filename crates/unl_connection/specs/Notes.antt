@@ -1,5 +1,5 @@
 -- The notes of the requests that were answered on a connection. There is one note for each: its draw (a time and a random word), and
--- its front (the number of publications that led to the board from which it was answered).
+-- its front (the number of installs that led to the board from which it was answered).
 use Rattle.std.specs.Prelude.{◌≡◌, ℕ, ◌≤◌, ◌⊎◌, List, [], ◌∷◌, ◌++◌, map, Option, Some}
 use Rattle.unl_base.specs.declared.draws.Draw.{Draw}
 use Rattle.unl_base.specs.Draws.{TakesDraw, TakesAtMostOne}
@@ -27,7 +27,7 @@ noted ones book = record { ones = ones; book = book }
 -- The effect of one answer: one more note, `one`, is appended. The answer is computed from the board that `board_at` gives for the
 -- note's front, with the note's draw. The answer's reply is sent, and the answer's report, if there is one, is added to the metrics
 -- book. But if the book has no room for the report, the reply is a 503 and the book is unchanged. If each version on the board
--- represents the histories of its environment (one history of changes per epoch), each token sees one revision of these histories.
+-- represents the line of its environment (one history of changes per epoch), each token sees one revision of its environment's line.
 pub record Notes
     (board_at : ℕ → Option Board) (before : Noted) (request : Request) (reply : Reply) (after : Noted) : Type 0 where
   pub one : ServedOne

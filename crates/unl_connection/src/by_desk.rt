@@ -15,15 +15,15 @@ use unl_server::RequestHandler;
 pub(crate) struct DeskHandler<'a, D> {
     /// Answers the requests.
     pub desk: &'a mut D,
-    /// Receives the reports of the answers.
+    /// Sums the metrics reports that answers have.
     pub book: &'a mut MetricsBook,
     /// Receives one note for each answer.
     pub served: &'a mut Served,
 }
 
-/// Lets a desk answer each request, and adds the answer's report to the metrics book. If the book has no room for the
-/// report, the reply is a 503. Notes the draw and the answer's front: the number of publications that led to the board
-/// from which the request was answered.
+/// Lets a desk answer each request. If the answer has a metrics report, adds it to the metrics book, or replies with a
+/// 503 if the book has no room for it. Notes the draw and the answer's front: the number of installs that led to the
+/// board from which the request was answered.
 pub(crate) struct ByDesk<'a, D>(PhantomData<&'a D>);
 
 impl<'a, D: Desk> RequestHandler for ByDesk<'a, D> {

@@ -15,7 +15,7 @@ use unl_metrics::MetricsBook;
 use unl_server::serve_requests;
 
 /// Serves a connection until it ends. The desk answers each request, and the reply of the answer is sent. The front
-/// (the number of publications that led to the board of the answer) and the draw (a time and a random word) are noted
+/// (the number of installs that led to the board of the answer) and the draw (a time and a random word) are noted
 /// in `served`, which must be empty at the start. The metrics that the request reports are added to `book`. If the book
 /// has no room for them, the reply is a 503 and the book is unchanged. Returns why the connection ended.
 pub fn serve_connection<D: Desk, L: Link, R: Draws>(
@@ -29,18 +29,18 @@ pub fn serve_connection<D: Desk, L: Link, R: Draws>(
     requires { served.old ≡ [] }
 
     // Each answered request appends one note to `served`. The replies are sent in order: a prefix of them if a write
-    // failed, and perhaps without the last if memory ran out. After the replies, a refusal is sent if the bytes are not
-    // a request, and a 500, as far as the link allows, if memory ran out. The reports of the noted requests were added to
-    // the book in order, except those for which it had no room. Suppose that each environment has a line (a list of
-    // histories, one per epoch), and that each version on the board of an answer represents the line of its environment.
-    // Then what a token sees of that board is one revision of the line of the token's environment.
+    // failed, and perhaps without the last if memory ran out. After the replies, a refusal is sent if the next bytes
+    // are not a request, and a 500, as far as the link allows, if memory ran out. The reports of the noted requests
+    // were added to the book in order, except those for which it had no room. Suppose that each environment has a line
+    // (a list of histories, one per epoch), and that each version on the board of an answer represents the line of its
+    // environment. Then what a token sees of that board is one revision of the line of the token's environment.
     ensures converses { Converses (Notes (D.board_at desk.new)) NotesNothing
         (link_view (L.left link.old) (L.sent link.old) (L.Source.faults link.old))
         (noted served.old book.old) result (noted served.new book.new) (length served.new)
         (link_view (L.left link.new) (L.sent link.new) (L.Source.faults link.new)) }
 
-    // The desk looked once for each note, and found the board of the note's front. If memory ran out, it may have looked
-    // once more. The fronts never fall. The draws of the notes were taken in order, and at most one more after
+    // The desk looked once for each note, and found the board of the note's front. If memory ran out, it may have
+    // looked once more. The fronts never fall. The draws of the notes were taken in order, and at most one more after
     // them. The desk still knows each board that it knew before.
     ensures fronts { FrontsRise (D.front desk.old) served.new (D.front desk.new) }
     ensures looks { LooksFor (D.fronts desk.old) served.new result (D.fronts desk.new) }

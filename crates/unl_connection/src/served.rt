@@ -11,8 +11,7 @@ use unl_server::MOST_REQUESTS;
 /// The note of one answered request.
 #[derive(Clone, Copy, Debug, PartialEq, Eq)]
 pub struct ServedOne {
-    /// Identifies the board (the published data of all environments) that the request was answered from: the board
-    /// after this number of publications.
+    /// The number of installs that led to the board from which the request was answered.
     pub front: u64,
     /// The draw that the request was answered with: its time and its random word.
     pub draw: Draw,

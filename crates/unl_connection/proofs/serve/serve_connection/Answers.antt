@@ -7,7 +7,7 @@ use Rattle.unl_connection.specs.Notes.{DrawsAtLeast, LooksFor, Notes, NotesNothi
 use Rattle.unl_connection.proofs.NotesLemmas.{ReflectsNotes, shows, reflects}
 use Rattle.unl_connection.proofs.serve.serve_connection.Goals as goal
 
--- Each fact is about the values behind the references after the conversation, which are the references that were passed.
+-- `serve_requests` states its facts of the references in the handler afterwards. These are the references that were passed to it.
 pub returns-clause-converses : goal.returns-clause-converses
 returns-clause-converses g c =
     let after = c.serve_requests-conversed.new.state in
