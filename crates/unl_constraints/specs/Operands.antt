@@ -1,4 +1,4 @@
--- The right side of a constraint, parsed as its operator needs.
+-- The right side of a constraint (its value or values), parsed as its operator needs.
 use Rattle.std.specs.Prelude.{◌≡◌, ℕ, List, map, Bool, true, false, ◌&&◌, Option, option_map, option_and_then}
 use Rattle.std.specs.List.{list_any}
 use Rattle.semver.specs.Identifiers.{parts_of}
@@ -19,7 +19,7 @@ use Rattle.unl_constraints.specs.declared.operand.Operand.{Operand}
 use Rattle.unl_constraints.specs.declared.operand.ScalarOperand.{ScalarOperand}
 use Rattle.unl_constraints.specs.declared.operand.ScalarOperand.TheVariants as scalar
 
--- The kind of comparison that the operator makes.
+-- The kind of comparison that the operator makes. An unknown operator has the kind `Member`, but its constraint never holds.
 abbrev pub kind_of : Operator → OperandKind
 kind_of In = kind.Member
 kind_of NotIn = kind.Member
@@ -38,7 +38,7 @@ kind_of SemverGt = kind.Version
 kind_of SemverLt = kind.Version
 kind_of (Unknown name) = kind.Member
 
--- The kind is `Part`: the values are compared as substrings of the field.
+-- The kind is `Part`: the field is searched for each of the values as a substring.
 abbrev pub is_part : OperandKind → Bool
 is_part kind.Part = true
 is_part k = false
@@ -58,8 +58,8 @@ pub record AreValues (c : Constraint) (values : List (List ℕ)) : Type 0 where
   pub rising : AreRising values
   pub same : (text : List ℕ) → is_among values text ≡ is_among (compared_values c) text
 
--- `s` is the constraint's value `text`, parsed for this kind of comparison. `Member` and `Part` use the list of values instead
--- of `text`, so they accept any `s`.
+-- `s` is the constraint's single value `text`, if any, parsed for this kind of comparison. `Member` and `Part` use the list of values
+-- instead of `text`, so they accept any `s`.
 abbrev pub IsScalarOperand : OperandKind → Option (List ℕ) → ScalarOperand → Type 0
 IsScalarOperand kind.Member text s = Unit {0}
 IsScalarOperand kind.Part text s = Unit {0}

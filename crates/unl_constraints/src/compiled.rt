@@ -39,25 +39,25 @@ impl Compiled {
         Ok(Compiled { constraint, right })
     }
 
-    /// Whether a context satisfies the constraint, by the rules of [`holds`](crate::holds). `now` is in milliseconds since
-    /// 1970. The only error is out of memory.
+    /// Whether a context satisfies the constraint, by the rules of [`holds`](crate::holds). `now` is in milliseconds
+    /// since 1970. The only error is out of memory.
     pub fn holds(&self, alloc: Global, context: &Context, now: u64) -> Result<bool, Memory>
         ensures { IfOk result (λ r. r ≡ constraint_holds self.now context.now now) }
     {
         compare(alloc, &self.constraint, &self.right, context, now)
     }
 
-    /// Returns the constraint's values in ascending byte order, without duplicates. If the operator is one of the three STR
-    /// operators and the constraint is case-insensitive, the values are case-folded first, by the default folding of the
-    /// Unicode Standard. Does not allocate.
+    /// Returns the constraint's values in ascending byte order, without duplicates. If the operator is one of the three
+    /// STR operators and the constraint is case-insensitive, each value is in its case-folded form, by the default
+    /// folding of the Unicode Standard. Does not allocate.
     pub fn values(&self) -> &List<Text>
         ensures { AreValues self.now result.now }
     {
         &self.right.values
     }
 
-    /// Whether a context satisfies all of the constraints; true if there are none. `now` is in milliseconds since 1970. The
-    /// only error is out of memory.
+    /// Whether a context satisfies all of the constraints; true if there are none. `now` is in milliseconds since 1970.
+    /// The only error is out of memory.
     pub fn all_hold(
         alloc: Global,
         constraints: &[Compiled],

@@ -1,5 +1,5 @@
-//! Laws that follow from the table of operators and from the order of numbers. Each law is the contract of a function
-//! that does nothing.
+//! Laws on the operators of constraints and on the order of numbers. Each law is the contract of a function that does
+//! nothing.
 ghost use Rattle.std.specs.Cmp.{IsTotalOrder};
 ghost use Rattle.unl_constraints.specs.Decimal.{number_cmp};
 ghost use Rattle.unl_constraints.specs.Laws.{InvertedNegates, NotInIsContraryOfIn, NumbersCompare, NumGteIsContraryOfNumLt};
@@ -10,7 +10,7 @@ pub fn inverted_negates()
     ensures { InvertedNegates }
 {}
 
-/// NOT_IN is the negation of IN.
+/// A constraint with NOT_IN holds exactly if the same constraint with IN doesn't.
 pub fn not_in_is_contrary_of_in()
     ensures { NotInIsContraryOfIn }
 {}
@@ -22,7 +22,8 @@ pub fn number_order_is_total()
     ensures total { IsTotalOrder number_cmp }
 {}
 
-/// If both sides are numbers, NUM_GTE is the negation of NUM_LT, and NUM_LTE is the negation of NUM_GT.
+/// If the field and the value are both numbers, a constraint with NUM_GTE holds exactly if the same constraint with
+/// NUM_LT doesn't, and likewise for NUM_LTE and NUM_GT.
 pub fn number_operators_are_contraries()
     ensures gte { NumGteIsContraryOfNumLt }
     ensures lte { NumLteIsContraryOfNumGt }

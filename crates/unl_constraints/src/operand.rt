@@ -1,4 +1,4 @@
-//! The right sides of constraints, parsed as their operators need.
+//! The right sides of constraints (their value or values), parsed as their operators need.
 ghost use Rattle.std.specs.Prelude.{◌≡◌, ℕ, List, Bool, IfOk, map, option_map, option_and_then};
 ghost use Rattle.std.specs.List.{list_any};
 ghost use Rattle.semver.specs.Identifiers.{parts_of};
@@ -27,19 +27,21 @@ use unl_documents::{Constraint, List, Memory, Operator, Text};
 /// The kind of comparison that an operator makes.
 #[derive(Clone, Copy)]
 pub(crate) enum OperandKind {
-    /// The context's field equals one of the constraint's values.
+    /// The context's field is tested for equality with each of the constraint's values.
     Member,
-    /// The context's field contains one of the constraint's values as a substring.
+    /// The context's field is searched for each of the constraint's values as a substring.
     Part,
     /// The context's field and the constraint's value are compared as numbers.
     Number,
-    /// The context's time and the constraint's value are compared as instants.
+    /// The context's `currentTime`, or else the time of the evaluation, and the constraint's value are compared as
+    /// instants.
     Instant,
     /// The context's field and the constraint's value are compared as versions.
     Version,
 }
 
-/// The right side of a constraint, parsed and sorted.
+/// The right side of a constraint, prepared for many evaluations: the values are sorted, and the single value is
+/// parsed.
 #[derive(Drop)]
 pub(crate) struct Operand {
     /// The constraint's values in ascending byte order, without duplicates. They are case-folded if the operator
@@ -47,20 +49,20 @@ pub(crate) struct Operand {
     pub values: List<Text>,
     /// The constraint's single value, parsed.
     pub single: ScalarOperand,
-    /// The constraint's field, if it is one of the six named fields of a context. `None` if it is a property.
+    /// The constraint's field, if that is a [`KnownField`]. `None` if it is a property.
     pub known: Option<KnownField>,
 }
 
-/// The value of a constraint, parsed as its operator needs.
+/// The single value of a constraint, parsed as its operator needs.
 #[derive(Drop)]
 pub(crate) enum ScalarOperand {
-    /// Nothing is parsed, because the operator uses the list of values.
+    /// Nothing is parsed: the operator uses the list of values, or is unknown.
     Values,
-    /// The number, if the value is one.
+    /// The value as a number, or `None` if the value is absent or not a number.
     Number(Option<Decimal>),
-    /// The instant in nanoseconds since 1970, if the value is one.
+    /// The value as an instant in nanoseconds since 1970, or `None` if the value is absent or not an instant.
     Instant(Option<i128>),
-    /// The version, if the value is one.
+    /// The value as a version, or `None` if the value is absent or not a version.
     Version(Option<Version>),
 }
 
@@ -77,7 +79,7 @@ pub(crate) trait OperandSide {
         ensures { result ≡ among constraint.now.values text.now };
 
     /// Whether a string contains one of the constraint's values at this position. If the constraint is
-    /// case-insensitive, both are case-folded first. The only error is out of memory.
+    /// case-insensitive, the string and the values are case-folded first. The only error is out of memory.
     fn has_part(
         &self,
         alloc: Global,
@@ -89,12 +91,12 @@ pub(crate) trait OperandSide {
         requires kind { kind_by constraint.now.operator ≡ kind.Part }
         ensures { IfOk result (λ r. r ≡ some_there position constraint.now.caseless text.now constraint.now.values) };
 
-    /// Returns the constraint's field if it is one of the six named fields of a context, or `None` if it is a property.
+    /// Returns the constraint's field if that is a [`KnownField`], or `None` if it is a property.
     fn known(&self, constraint: &Constraint) -> Option<KnownField>
         requires { is_of constraint.now self.now }
         ensures { result ≡ known_by constraint.now.field };
 
-    /// Returns the constraint's value, parsed as its operator needs.
+    /// Returns the constraint's single value, parsed as its operator needs.
     fn single(&self, constraint: &Constraint) -> &ScalarOperand
         requires { is_of constraint.now self.now }
         ensures { IsScalarOperand (kind_by constraint.now.operator) constraint.now.value result.now };
@@ -171,7 +173,7 @@ impl Operand {
 }
 
 impl ScalarOperand {
-    /// Parses the value of a constraint as its operator needs. The only error is out of memory.
+    /// Parses the single value of a constraint as its operator needs. The only error is out of memory.
     pub(crate) fn of(alloc: Global, constraint: &Constraint) -> Result<ScalarOperand, Memory>
         ensures { IfOk result (IsScalarOperand (kind_by constraint.now.operator) constraint.now.value) }
     {
@@ -255,7 +257,7 @@ fn in_order(texts: Vec<Text>) -> Result<List<Text>, Memory>
     Ok(List::from_vec(texts))
 }
 
-/// Parses a number. Returns `None` if there is no string or it is not a number.
+/// Parses a number. Returns `None` if there is no string or the string is not a number.
 pub(crate) fn number(text: Option<&str>) -> Option<Decimal>
     ensures { IsRead (option_and_then number_of (option_map (λ t. t.now) text.entry)) result }
 {
@@ -265,7 +267,8 @@ pub(crate) fn number(text: Option<&str>) -> Option<Decimal>
     }
 }
 
-/// Parses a version. Returns `None` if there is no string or it is not a version.
+/// Parses a version. Returns `None` if there is no string or the string is not a version. The only error is out of
+/// memory.
 pub(crate) fn version(alloc: Global, text: Option<&str>) -> Result<Option<Version>, Memory>
     ensures { IfOk result (λ v. option_map parts_of v ≡ option_and_then version_of (option_map (λ t. t.now) text.entry)) }
 {
@@ -275,7 +278,8 @@ pub(crate) fn version(alloc: Global, text: Option<&str>) -> Result<Option<Versio
     }
 }
 
-/// Parses an instant. Returns `None` if there is no string or it is not an instant.
+/// Parses an instant, in nanoseconds since 1970. Returns `None` if there is no string or the string is not an instant.
+/// The only error is out of memory.
 fn instant(alloc: Global, text: Option<&str>) -> Result<Option<i128>, Memory>
     ensures { IfOk result (λ i. i ≡ option_and_then instant_of (option_map (λ t. t.now) text.entry)) }
 {
