@@ -1,4 +1,4 @@
--- The pairs of a query: keys `properties[x]` may be kept apart from the others, and the number of properties never falls.
+-- The pairs of a query: those with a key `properties[x]` may be applied after all others, and the number of properties never falls.
 use Rattle.std.proofs.Common.{◌≡◌, ℕ, List, [], ◌∷◌, ◌≤◌, ◌<◌, fold, length, Bool, true, false, Option, Some, None, Less, Equal, Greater, nat_cmp, refl, ap, ◌∙◌, arith}
 use Rattle.std.specs.Prelude.{option_to_list, is_some, ◌||◌, ◌==◌, if◌then◌else◌}
 use Rattle.std.specs.Cmp.Lexicographic.{slice_cmp}

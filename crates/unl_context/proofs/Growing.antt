@@ -1,4 +1,4 @@
--- The names of an object's members, one by one.
+-- The names of an object's members, and that they are strictly ascending.
 use Rattle.std.proofs.Common.{◌≡◌, ℕ, List, [], ◌∷◌, ◌++◌, map, Option, Some, None, String, Global, string_bytes, sym, ap, subst, ◌∙◌, append_assoc, nat_cmp, Less}
 use Rattle.std.specs.Prelude.{option_to_list, IfSome}
 use Rattle.std.specs.Cmp.Lexicographic.{slice_cmp}
@@ -19,7 +19,7 @@ drop_name : (P : List ℕ → Type 0) (before : List (List ℕ)) (name : List �
 drop_name P [] name after h = h.1
 drop_name P (k ∷ before) name after h = (h.0, drop_name P before name after h.1)
 
--- Names without one of them are still strictly ascending.
+-- Strictly ascending names stay so if one of them is removed.
 rising_without : (before : List (List ℕ)) (name : List ℕ) (after : List (List ℕ)) → AreRising (before ++ name ∷ after) → AreRising (before ++ after)
 unfolding IsStrictlySortedBy
 rising_without [] name after h = h.1

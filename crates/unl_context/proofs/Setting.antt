@@ -13,7 +13,7 @@ use Rattle.unl_context.specs.Laws.{last_value, is_key, LastFieldCounts, SetNames
 use Rattle.unl_context.proofs.Lasting.{last_counts}
 use Rattle.unl_context.proofs.Rising.{no_names, rising_put}
 
--- A statement that holds for each of the six names holds for all.
+-- A statement holds for every field if it holds for each of the six.
 each : (P : KnownField → Type 0) → P known.UserId → P known.SessionId → P known.RemoteAddress → P known.Environment → P known.AppName → P known.CurrentTime → (k : KnownField) → P k
 each P a b c d e f known.UserId = a
 each P a b c d e f known.SessionId = b
@@ -31,7 +31,7 @@ stays k name value c = each (λ k. known_field k (with_property name value c) �
 abbrev Sets : KnownField → Fields → List ℕ → List ℕ → Type 0
 Sets k c value key = known_field k (set_plain c (key, value)) ≡ (if is_key k key then Some value else known_field k c)
 
--- Case split: a key equals this string or it does not.
+-- Case split: the key equals the string `literal` or it does not.
 decided : (P : List ℕ → Type 0) (literal key : List ℕ) → P literal → (bytes_eq key literal ≡ false → P key) → P key
 decided P literal key here other =
     elim (cases_Bool (bytes_eq key literal)) [
@@ -39,7 +39,7 @@ decided P literal key here other =
       | inr equal ↦ other equal
     ]
 
--- Any other key does not change this field.
+-- A pair whose key is not the name of a field does not change the field `k`.
 other_key : (k : KnownField) (c : Fields) (value key : List ℕ) → known_by key ≡ None → is_key k key ≡ false → Sets k c value key
 unfolding set_plain
 other_key k c value key unknown other = by (known_by key) unknown

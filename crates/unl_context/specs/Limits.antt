@@ -10,11 +10,11 @@ use Rattle.unl_context.specs.Reading.{Reading}
 abbrev pub is_name : List ℕ → Bool
 is_name text = nat_lt 0 (length text) && nat_le (length text) 255
 
--- The string as the name of a property, or `TooLarge`.
+-- The string as the name of a property, or `TooLarge` if it is empty or has more than 255 bytes.
 abbrev pub name_of : List ℕ → Reading (List ℕ)
 name_of key = if is_name key then Ok key else Err TooLarge
 
--- The string as a value, or `TooLarge` if it has more than 4,096 bytes.
+-- The string as the value of a field or property, or `TooLarge` if it has more than 4,096 bytes.
 abbrev pub short_text : List ℕ → Reading (List ℕ)
 short_text text = if nat_lt 4096 (length text) then Err TooLarge else Ok text
 
@@ -31,7 +31,7 @@ text_fits (Some text) = not (nat_lt 4096 (length text))
 abbrev pub property_fits : Property → Bool
 property_fits p = is_name p.name && not (nat_lt 4096 (length p.value))
 
--- Every part of the context is within its limits.
+-- Each field, each property and the number of properties are within their limits.
 unfoldable pub is_within_limits : Fields → Bool
 is_within_limits c =
     text_fits c.user_id && text_fits c.session_id && text_fits c.remote_address

@@ -27,11 +27,12 @@ present (string text) = Some (string text)
 present (array values) = Some (array values)
 present (object inside) = Some (object inside)
 
--- The value at a key. Null counts as absent.
+-- The value at a key of an object. `None` if the key is absent, its value is null or `value` is not an object.
 unfoldable pub at : List ℕ → Data → Option Data
 at key value = option_and_then present (get key value)
 
--- The value as a string: a string itself, or the JSON text of an integer or a boolean. Any other value is `WrongKind`.
+-- The value as a string: a string itself, or the JSON text of an integer or a boolean, or `WrongKind` for any other value. `-0` and
+-- integers outside -2^63 to 2^64 - 1 are parsed as floats, so they are not integers here.
 abbrev pub plain : Part → Data → Reading (List ℕ)
 plain part null = Err (WrongKind part)
 plain part (boolean b) = Ok (compact_text (boolean b))
@@ -40,6 +41,6 @@ plain part (string text) = Ok text
 plain part (array values) = Err (WrongKind part)
 plain part (object inside) = Err (WrongKind part)
 
--- The value of a part of a context as a string of at most 4,096 bytes.
+-- The value of a part of a context as a string, as in `plain`, or `TooLarge` if the string has more than 4,096 bytes.
 unfoldable pub text_in : Part → Data → Reading (List ℕ)
 text_in part value = plain part value >>= short_text

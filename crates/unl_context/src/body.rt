@@ -9,7 +9,8 @@ use crate::values::{read_json, taken_at};
 use serde_json::Value;
 use std::alloc::Global;
 
-/// Reads a context from the bytes of a body. Returns `NotObject` if they are not JSON.
+/// Reads a context from the bytes of a body, as [`Context::read_body`] says. Returns `NotObject` if the bytes are not
+/// JSON.
 #[tactic(auto, unfolding(crate::specs::Json::body_of))]
 pub(crate) fn body_of(alloc: Global, bytes: &[u8]) -> Result<Context, BadContext>
     ensures gives { Gives result (body_of bytes.now) }

@@ -1,14 +1,15 @@
-//! Laws on the fields and properties set by the pairs of a query. Each law is the contract of a function that does
+//! Laws on the fields and properties that the pairs of a query set. Each law is the contract of a function that does
 //! nothing.
 ghost use Rattle.unl_context.specs.Laws.{LastFieldCounts, LastPropertyCounts, SetNamesRise};
 
-/// A field has the value of the last pair whose key is the field's name.
+/// A field has the value of the last pair whose key is the field's name, or is absent if there is no such pair.
 pub fn last_field_counts()
     ensures { LastFieldCounts }
 {}
 
-/// A property x has the value of the last pair with the key `properties[x]`, or if there is none, of the last pair with
-/// the key x.
+/// A property x has the value of the last pair with the key `properties[x]`. If there is no such pair, it has that of
+/// the last pair with the key x, provided that x is not empty, not the name of a field and not of the form
+/// `properties[y]` with a nonempty y. Otherwise it is absent.
 pub fn last_property_counts()
     ensures { LastPropertyCounts }
 {}

@@ -1,4 +1,4 @@
-//! An owned string.
+//! The owned string that holds a field of a context, or the name or value of a property.
 ghost use Rattle.std.specs.Prelude.{◌≡◌, List, ℕ, string_bytes, IfOk};
 
 use std::alloc::{AllocError, Global};

@@ -23,7 +23,7 @@ pub(crate) fn read_json(alloc: Global, bytes: &[u8]) -> Result<Option<Value>, Al
     }
 }
 
-/// Returns the value at a key. Null counts as absent.
+/// Returns the value at a key of an object. `None` if the key is absent, its value is null or `value` is not an object.
 #[tactic(auto, unfolding(crate::specs::Values::at))]
 pub(crate) fn value_at<'a>(key: &str, value: &'a Value) -> Option<&'a Value>
     ensures { option_map (λ found. view found.now) result ≡ at key.now (view value.now) }
@@ -34,8 +34,8 @@ pub(crate) fn value_at<'a>(key: &str, value: &'a Value) -> Option<&'a Value>
     }
 }
 
-/// Moves the value at a key out of an object, so that it need not be copied. Null counts as absent, and then the object is
-/// unchanged.
+/// Like [`value_at`], but moves the value out of the object, so that it need not be copied, and leaves null at the key.
+/// If `None` is returned, the object is unchanged.
 #[tactic(auto, unfolding(crate::specs::Values::at))]
 pub(crate) fn taken_at(key: &str, value: &mut Value) -> Option<Value>
     ensures gives { option_map view result ≡ at key.now (view value.old) }
@@ -59,7 +59,7 @@ pub(crate) fn text_of(alloc: Global, part: Part, value: Value) -> Result<Text, B
 }
 
 /// Converts the value of a part of a context to a string: a string itself, or the JSON text of an integer or boolean.
-/// Any other value is `WrongKind` with the part. A string of more than 4,096 bytes is `TooLarge`.
+/// Returns `WrongKind` with the part for any other value, and `TooLarge` for a string of more than 4,096 bytes.
 #[tactic(auto, unfolding(crate::specs::Values::text_in))]
 pub(crate) fn text_in(alloc: Global, part: Part, value: &Value) -> Result<Text, BadContext>
     ensures { Gives result (text_in part (view value.now)) }
@@ -73,7 +73,8 @@ pub(crate) fn text_in(alloc: Global, part: Part, value: &Value) -> Result<Text, 
     }
 }
 
-/// Converts the integer at a part of a context to its decimal text. A number that is not an integer is `WrongKind`.
+/// Converts the integer at a part of a context to its decimal text. Returns `WrongKind` for any other number. `-0` and
+/// integers outside -2^63 to 2^64 - 1 are parsed as floats, so they are not integers here.
 #[tactic(auto, unfolding(crate::specs::Values::text_in))]
 fn integer_in(alloc: Global, part: Part, value: &Number) -> Result<Text, BadContext>
     ensures { Gives result (text_in part (number (number_view value.now))) }
