@@ -11,7 +11,8 @@ use Rattle.unl_http_api.specs.Route.{is_post, query_of}
 use Rattle.unl_http_api.specs.declared.request.Request.{Request}
 use Rattle.unl_core.specs.Answer.{asked_context}
 
--- The success and error clauses of a call that reads a context together say that the call gives the expected reading.
+-- If the success clause and the error clause of a call that reads a context hold, the call returns the expected context or fault, or runs
+-- out of memory.
 pub context_given : (result reading asked : Reading Fields) → reading ≡ asked → IfOk result (Reads reading)
     → IfErr result (λ e. e ≢ Memory → HasFault reading e) → Gives Memory result asked
 context_given (Ok context) reading asked same reads fault = sym same ∙ reads

@@ -1,4 +1,4 @@
--- The places of a desk agree with the slots of its board.
+-- The places of a desk agree with the slots of its board: each place has the version of its slot.
 use Rattle.std.proofs.Common.{◌≡◌, ℕ, zero, suc, ◌<◌, ◌+◌, List, [], ◌∷◌, ◌++◌, length, map, Some, None, Option, ap, refl, sym, ◌∙◌, All, IfSome, subst, get_or, unwrap_or, true, false}
 use Rattle.std.proofs.Math.ListN.{set}
 use Rattle.std.proofs.Math.Seq.{map-set_same}
@@ -68,7 +68,7 @@ place_version board places slot p matched low is =
     ∙ ap (λ (o : Option (Option EnvVersion)). unwrap_or o None) (slice_get-map (λ s. s.snapshot) board.slots slot)
     ∙ joined (λ (s : Slot). s.snapshot) (slice_get board.slots slot)
 
--- If a place is held or released and keeps its version, places and slots still agree.
+-- If a place is replaced by another with the same version, places and slots still agree.
 pub places_match_held : (board : Board) (places : List Place) (slot : ℕ) (place : Place) (d : Place) → PlacesMatch board places → slot < length places
     → place.version ≡ (get_or places slot d).version → PlacesMatch board (set places slot place)
 places_match_held board places slot place d matched low same =
@@ -80,7 +80,7 @@ places_match_held board places slot place d matched low same =
       valid = All-set IsValidPlace places slot place sound matched.valid;
     }
 
--- If a slot and an empty place are added for a new environment, places and slots still agree.
+-- If an empty slot and an empty place are added for a new environment, places and slots still agree.
 pub places_match_more : (board grown : Board) (places : List Place) (environment : List ℕ) (slot : Slot) → PlacesMatch board places → length board.slots < 8
     → None ≡ place_in environment board.slots → slot ≡ empty_slot environment → grown.slots ≡ board.slots ++ slot ∷ []
     → PlacesMatch grown (places ++ empty_place ∷ [])
@@ -100,14 +100,14 @@ place_is : (board : Board) (places : List Place) (front slot : ℕ) (p : Place) 
     → place_of (installed_by (record { board = board; places = places; front = front })) slot ≡ p
 place_is board places front slot p low is = ap (λ o. unwrap_or o empty_place) (slice_get-get_or places slot p low) ∙ sym is
 
--- A desk whose place is held by the code is `with_hold` of the desk.
+-- If the code holds a slot, the desk is then as `with_hold` defines it.
 pub hold_is : (board : Board) (places : List Place) (front slot : ℕ) (p : Place) (s : DeskState) → record { board = board; places = places; front = front } ≡ s → slot < length places
     → p ≡ get_or places slot p → record { board = board; places = set places slot (record { version = p.version; held = true }); front = front } ≡ with_hold slot s
 hold_is board places front slot p s same low is =
     ap (λ (v : Option EnvVersion). state_of_desk board (set places slot (record { version = v; held = true })) front) (ap (λ (q : Place). q.version) (sym (place_is board places front slot p low is)))
     ∙ ap (with_hold slot) same
 
--- A desk on which the code installs a batch is `with_batch` of the desk.
+-- If the code installs a batch, the desk is then as `with_batch` defines it.
 pub install_is : (board new : Board) (places : List Place) (front slot : ℕ) (batch : Batch) (p : Place) (v kept shared : EnvVersion) (s : DeskState)
     → record { board = board; places = places; front = front } ≡ s → slot < length places → p ≡ get_or places slot p
     → v ≡ next_version p batch → shared ≡ v → kept ≡ v → new ≡ with_snapshot slot shared board

@@ -1,4 +1,4 @@
--- If the versions of a board are revisions of lines of histories, a token sees one revision and is sent events of its line.
+-- If the versions of a board are revisions of lines of histories, a token sees one revision and is sent events of its environment's line.
 use Rattle.std.proofs.Common.{◌≡◌, ℕ, Bool, true, false, cond, List, [], ◌∷◌, Option, Some, None, Result, Ok, Err, refl, subst}
 use Rattle.std.specs.Prelude.{IfSome, option_and_then, find}
 use Rattle.unl_delta.specs.declared.batch.Batch.{Batch}
@@ -56,7 +56,7 @@ pub shows_revision : (histories : Histories) (board : Board) (q : Request) (kind
 shows_revision histories board q kind ready all is =
     seen_in (histories.line ready.token.environment) (histories.sees ready.token.environment) (sees ready.token.projects) ready.version (ready_is histories board q kind ready all is)
 
--- The events that a token is sent are sent of its environment's line.
+-- The batch that a token is sent can be sent from its environment's line.
 pub batch_of_line : (histories : Histories) (board : Board) (q : Request) (kind : Kind) (ready : Ready) (since : Option ℕ) (batch : Batch) → AllRepresented histories board.slots
     → ready_by board q kind ≡ Ok ready → delta_answer ready.version since (sees ready.token.projects) ≡ Sent batch
     → IsSent (histories.line ready.token.environment) (both_see histories ready) batch

@@ -14,11 +14,11 @@ first_with_segments = (4, 2, 0, [], [])
 abbrev pub version_in : List ℕ → Option Parts
 version_in bytes = option_and_then version_of (if_utf8 bytes)
 
--- There is a version, and its precedence is below 4.2.0.
+-- Whether there is a version and its precedence is below 4.2.0.
 abbrev pub is_before_segments : Option Parts → Bool
 is_before_segments None = false
 is_before_segments (Some version) = is_lt (precedence version first_with_segments)
 
--- The request names a version of the client specification whose clients don't know segments.
+-- Whether the request names a version of the client specification whose clients don't know segments.
 abbrev pub knows_no_segments : Request → Bool
 knows_no_segments q = is_before_segments (option_and_then version_in q.spec)

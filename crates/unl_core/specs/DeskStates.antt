@@ -1,6 +1,6 @@
--- The state of a single-threaded desk: a board, the place of each slot, and the number of publications. A place has the slot's
--- version and whether the slot is held: a held slot missed a batch of events, and takes only a batch that begins with a hydration
--- (an event that contains the whole state).
+-- The state of a single-threaded desk: a board, the place of each slot, and the number of publications. A place has the slot's version, if
+-- any, and whether the slot is held: a held slot missed a batch of events, and takes only a batch that begins with a hydration (an event
+-- that contains the whole state).
 use Rattle.std.specs.Prelude.{◌≡◌, ℕ, ◌+◌, List, [], ◌∷◌, ◌++◌, length, map, All, Bool, ◌&&◌, ◌||◌, not, nat_lt, if◌then◌else◌, is_some}
 use Rattle.std.specs.Prelude.{slice_get, slice_set, Option, option_and_then, Some, true, false}
 use Rattle.unl_tokens.specs.declared.token.Token.{Token}
@@ -14,7 +14,7 @@ use Rattle.unl_core.specs.declared.board.Board.{Board}
 use Rattle.unl_core.specs.declared.board.Slot.{Slot}
 use Rattle.unl_core.specs.Board.{AreSlots, place_in, empty_slot, with_snapshot, with_tokens}
 
--- The board, the place of each of its slots, and the number of changes published so far.
+-- The board, the place of each of its slots, and the number of publications so far.
 pub record DeskState : Type 0 where
   pub board : Board
   pub places : List Place
@@ -26,7 +26,7 @@ pub record PlacesMatch (board : Board) (places : List Place) : Type 0 where
   pub versions : map (λ place. place.version) places ≡ map (λ slot. slot.snapshot) board.slots
   pub valid : All IsValidPlace places
 
--- The place with a slot's version, not held.
+-- The place with a slot's version, if any. It is not held.
 abbrev pub place_at : Slot → Place
 place_at slot = record { version = slot.snapshot; held = false }
 
@@ -38,15 +38,15 @@ snapshot_at slots slot = option_and_then (λ s. s.snapshot) (slice_get slots slo
 abbrev pub installed_by : DeskState → Installed
 installed_by s = record { places = s.places; front = s.front; book = s.board.book }
 
--- The environment is new, and the board has fewer than eight slots.
+-- Whether the environment is new and the board has fewer than eight slots.
 abbrev pub is_added : List ℕ → List Slot → Bool
 is_added environment slots = not (is_some (place_in environment slots)) && nat_lt (length slots) 8
 
--- The environment has a slot, or the board has fewer than eight slots.
+-- Whether the environment has a slot or the board has fewer than eight slots.
 abbrev pub has_room : List ℕ → List Slot → Bool
 has_room environment slots = is_some (place_in environment slots) || nat_lt (length slots) 8
 
--- The desk with an empty slot and an empty place appended.
+-- The desk with an empty slot for the environment and an empty place appended.
 abbrev pub with_slot : List ℕ → DeskState → DeskState
 with_slot environment s = record {
   board = record s.board { slots = s.board.slots ++ empty_slot environment ∷ [] };
@@ -74,10 +74,10 @@ with_version slot version s = record {
 abbrev pub with_batch : ℕ → Batch → DeskState → DeskState
 with_batch slot batch s = with_version slot (next_version (place_of (installed_by s) slot) batch) s
 
--- The desk after a slot is held. Its version stays.
+-- The desk after a slot is held. The slot keeps its version.
 abbrev pub with_hold : ℕ → DeskState → DeskState
 with_hold slot s = with_place slot (record { version = (place_of (installed_by s) slot).version; held = true }) s
 
--- The desk after a token book is published.
+-- The desk after a token book is published: one more publication.
 abbrev pub with_book : List Token → DeskState → DeskState
 with_book book s = record { board = with_tokens book s.board; places = s.places; front = s.front + 1 }

@@ -1,5 +1,5 @@
--- Boards whose versions come from the histories of their environments. A line of histories has, for each epoch of an
--- environment, the list of its events. A revision of a line is the state after the events of one epoch up to some number.
+-- Boards whose versions come from the histories of their environments. A line of histories has, for each epoch of an environment, the list
+-- of the changes in that epoch. A revision of a line is the state after the changes of one epoch up to some number.
 use Rattle.std.specs.Prelude.{◌≡◌, ℕ, List, Some, Ok, option_map, Option, IfSome}
 use Rattle.std.specs.List.{AllByRecursion}
 use Rattle.unl_delta.specs.declared.version.EnvVersion.{EnvVersion}
@@ -14,12 +14,13 @@ use Rattle.unl_core.specs.declared.board.Slot.{Slot}
 use Rattle.unl_core.specs.Answer.{seen}
 use Rattle.unl_core.specs.Shown.{Ready, ready_by}
 
--- The line of histories of each environment, and the projects that are visible in the board's copy of it.
+-- The line of histories of each environment, and the set of projects that are visible in the board's copy of the environment.
 pub record Histories : Type 0 where
   pub line : List ℕ → List Era
   pub sees : List ℕ → Sees
 
--- The line of each environment is valid: epochs ascend, and the event numbers of each epoch never decrease.
+-- The line of each environment is valid: its epochs increase strictly, and each epoch has only changes, whose numbers start at 1 or above
+-- and never decrease.
 abbrev pub AreLines : Histories → Type 0
 AreLines histories = (environment : List ℕ) → IsLine (histories.line environment)
 
@@ -35,13 +36,13 @@ AllRepresented histories slots = AllByRecursion (λ slot. RepresentedAt historie
 abbrev pub both_see : Histories → Ready → Sees
 both_see histories ready = both (histories.sees ready.token.environment) (sees ready.token.projects)
 
--- The state that a token sees is one revision of its environment's line, with only the projects of `both_see`.
+-- The state that the request's token sees is one revision of its environment's line, with only the projects of `both_see`.
 abbrev pub ShowsRevision : Histories → Ready → Type 0
 ShowsRevision histories ready =
     option_map (view_of (both_see histories ready)) (revision_in (histories.line ready.token.environment) (revision_of ready.version))
     ≡ Some (seen ready)
 
--- The token of each accepted request to the board sees one revision.
+-- For each request and kind of token that `ready_by` accepts, the request's token sees one revision.
 abbrev pub ShowsRevisions : Histories → Board → Type 0
 ShowsRevisions histories board =
     (q : Request) (kind : Kind) (ready : Ready) → ready_by board q kind ≡ Ok ready → ShowsRevision histories ready

@@ -1,4 +1,4 @@
--- How the report of an answer changes the metrics book, and the reply that is then sent.
+-- How the report of an answer changes the metrics book (the summed counts of reports), and the reply that is then sent.
 use Rattle.std.specs.Prelude.{ℕ, List, codes, Option, Some, None, Result, Ok, Err}
 use Rattle.unl_core.specs.Answer.{refusal}
 use Rattle.unl_core.specs.declared.desk.Answer.{Answer}
@@ -14,12 +14,12 @@ summed book (Some report) (Some environment) = if_fits (book_sum book environmen
 summed book None environment = Ok book
 summed book (Some report) None = Ok book
 
--- The reply if the book has room for the report, otherwise the refusal 503 `MetricsFull`.
+-- The given reply if there is a new book, otherwise the refusal 503 `MetricsFull`.
 abbrev pub reply_where : Reply → Result Book AddRefusal → Reply
 reply_where reply (Ok book) = reply
 reply_where reply (Err cause) = refusal 503 (codes "MetricsFull")
 
--- The new book, or the old one if there is no room.
+-- The new book, or the old one if there is no new one.
 abbrev pub book_where : Book → Result Book AddRefusal → Book
 book_where old (Ok book) = book
 book_where old (Err cause) = old

@@ -1,6 +1,6 @@
--- The tag of an answer (its `ETag`): `"<boot>-<generation>-<place>-<epoch>.<number>i"` with its double quotes. This project
--- chose the format. `boot` and `generation` are fields of the board, the state that requests are answered over. `place` is the
--- position of the request's token in the board's list of tokens (its book). `epoch` and `number` are the revision of the content.
+-- The tag of a reply (its `ETag`): `"<boot>-<generation>-<place>-<epoch>.<number>i"` with its double quotes. This format is chosen by this
+-- project. `boot` (in 16 hexadecimal digits) and `generation` are fields of the board, the state that requests are answered over. `place`
+-- is the position of the request's token in the board's list of tokens (its book). `epoch` and `number` are the revision of the content.
 -- The epoch and the point are absent if the epoch is 0. The `i` is only in the tag of a feed whose segments are inlined.
 use Rattle.std.specs.Prelude.{ℕ, ◌-◌, ◌+◌, ◌^◌, ◌==◌, List, [], ◌++◌, codes, decimal, length, take, drop, false, Option, Some, None}
 use Rattle.std.specs.Prelude.{option_and_then, if◌then◌else◌}
@@ -15,7 +15,7 @@ use Rattle.unl_core.specs.declared.board.Board.{Board}
 abbrev pub hex_16 : ℕ → List ℕ
 hex_16 n = padded_integral (format_spec 32 0 4 16 (2 ^ 64 - 1)) false [] (digits 16 false n)
 
--- The epoch and a point before the rest, unless the epoch is 0.
+-- The epoch, a point and the rest, or only the rest if the epoch is 0.
 abbrev pub with_epoch : ℕ → List ℕ → List ℕ
 with_epoch epoch rest = if epoch == 0 then rest else decimal epoch ++ (codes "." ++ rest)
 
@@ -33,11 +33,11 @@ marked_tag mark board place at = tag_prefix board place at.epoch ++ (decimal at.
 abbrev pub tag_text : Board → ℕ → Revision → List ℕ
 tag_text = marked_tag []
 
--- The tag of a feed whose segments are inlined.
+-- The tag of a feed whose segments are inlined, for the token at `place`, at a revision.
 abbrev pub inlined_tag : Board → ℕ → Revision → List ℕ
 inlined_tag = marked_tag (codes "i")
 
--- The bytes of a tag from `prefix_length` to its last byte, the closing quote, which is excluded.
+-- The bytes of a tag after its first `prefix_length` bytes and before its last byte, where the closing quote belongs.
 abbrev pub number_part : ℕ → List ℕ → List ℕ
 number_part prefix_length tag = take (length tag - (prefix_length + 1)) (drop prefix_length tag)
 
@@ -45,15 +45,15 @@ number_part prefix_length tag = take (length tag - (prefix_length + 1)) (drop pr
 abbrev pub whole_in : List ℕ → Option ℕ
 whole_in bytes = option_and_then as_u64 (option_and_then as_number (json_of bytes))
 
--- The number, if the tag is exactly the tag of that number.
+-- The number n, if the tag is exactly the tag of n for this token and epoch, otherwise `None`.
 abbrev pub if_spelled : Board → ℕ → ℕ → List ℕ → ℕ → Option ℕ
 if_spelled board place epoch tag n = if bytes_eq tag (tag_text board place (record { epoch = epoch; number = n })) then Some n else None
 
--- The number of a tag for this token and epoch. `None` if it isn't exactly the tag of some number.
+-- The number of a tag. `None` if the tag isn't exactly the tag of some number for this token and epoch.
 unfoldable pub number_of_tag : Board → ℕ → ℕ → List ℕ → Option ℕ
 number_of_tag board place epoch tag =
     option_and_then (if_spelled board place epoch tag) (whole_in (number_part (length (tag_prefix board place epoch)) tag))
 
--- The number in the tag of a request, if there is a tag and it is the tag of a number.
+-- The number in the tag of a request. `None` if there is no tag, or if the tag isn't exactly that of some number for this token and epoch.
 abbrev pub since_of : Board → ℕ → ℕ → Option (List ℕ) → Option ℕ
 since_of board place epoch tag = option_and_then (number_of_tag board place epoch) tag

@@ -40,10 +40,11 @@ use unl_strategies::Moment;
 use unl_tokens::{BadRequest, Kind, Projects, Token, answer_text, read_request};
 
 /// Answers a request: with 404 `NoSuchRoute` if no route has its path, with 405 `BadMethod` if the route doesn't accept
-/// its method, otherwise with the route's own answer. `/commands` counts as an unknown path. `draw` has the time and
-/// the random word for an evaluation.
+/// its method, otherwise with the route's own answer. `/commands` counts as an unknown path, whatever the method.
+/// `draw` has the time and the random word for an evaluation. The board must have at most eight slots, of different
+/// environments.
 ///
-/// An answer shows a token only the features of its projects, and all segments of its environment.
+/// An answer shows a token only the features of the token's projects, and all segments of its environment.
 ///
 /// # Errors
 /// `Memory`: out of memory.
@@ -78,7 +79,7 @@ fn plain(reply: Reply) -> Answer
     }
 }
 
-/// The answer of a known route. `/commands` is refused like an unknown path.
+/// The answer of a known route, whose methods are already checked. `/commands` is refused like an unknown path.
 fn at_route(
     alloc: Global,
     board: &Board,
@@ -106,7 +107,7 @@ fn at_route(
     }
 }
 
-/// Answers a report of metrics from one application.
+/// Answers a report of metrics from one application, or refuses the request's token, which must be of this kind.
 fn report(alloc: Global, board: &Board, request: &Request, kind: Kind) -> Result<Answer, Memory>
     ensures answer { IfOk result (λ a. a ≡ reported (shown_by board.now request.now kind) (single_report_of request.now.body)) }
     ensures report { IfOk result (λ a. IfSome a.report IsReport) }
@@ -120,7 +121,7 @@ fn report(alloc: Global, board: &Board, request: &Request, kind: Kind) -> Result
     }
 }
 
-/// Answers a bulk report: metrics that an edge has summed up.
+/// Answers a bulk report (counts that an edge has summed up), or refuses a token that isn't a client token.
 fn bulk_report(alloc: Global, board: &Board, request: &Request) -> Result<Answer, Memory>
     ensures answer { IfOk result (λ a. a ≡ reported (shown_by board.now request.now Kind.Client) (bulk_report_of request.now.body)) }
     ensures report { IfOk result (λ a. IfSome a.report IsReport) }
@@ -134,8 +135,7 @@ fn bulk_report(alloc: Global, board: &Board, request: &Request) -> Result<Answer
     }
 }
 
-/// The answer to a report: 202 with the report, for the token's environment, or 400 `BadReport` if the report couldn't
-/// be read.
+/// The answer to a report: 202 with the report, for the token's environment, or 400 `BadReport` if it wasn't readable.
 fn reported_by(
     alloc: Global,
     token: &Token,
@@ -156,7 +156,7 @@ fn reported_by(
     }
 }
 
-/// The health reply. Health checks are frequent, so its text is a constant.
+/// The health reply: 200 with the body `{"status":"OK"}`. Health checks are frequent, so the text is a constant.
 fn healthy(alloc: Global) -> Result<Reply, Memory>
     ensures { IfOk result (λ r. r ≡ reply 200 (one_text (codes "status") (codes "OK"))) }
 {
@@ -164,7 +164,7 @@ fn healthy(alloc: Global) -> Result<Reply, Memory>
     Ok(with_text(status::OK, text))
 }
 
-/// The reply with the known tokens among those that the request lists, or 400 `BadBody`.
+/// The reply with those tokens of the book that the request lists, or 400 `BadBody` if the body can't be read.
 fn validate(alloc: Global, board: &Board, request: &Request) -> Result<Reply, Memory>
     ensures { IfOk result (λ r. r ≡ validated board.now (asked_in request.now.body)) }
 {
@@ -178,7 +178,7 @@ fn validate(alloc: Global, board: &Board, request: &Request) -> Result<Reply, Me
     }
 }
 
-/// Registers a client: 202, or 400 `BadReport` if the body isn't a JSON object. Nothing is stored.
+/// Registers a client: 202 (nothing is stored), 400 `BadReport` if the body isn't an object, or the token's refusal.
 fn register(alloc: Global, board: &Board, request: &Request, kind: Kind) -> Result<Reply, Memory>
     ensures { IfOk result (λ r. r ≡ registered request.now (shown_by board.now request.now kind)) }
 {
@@ -191,7 +191,7 @@ fn register(alloc: Global, board: &Board, request: &Request, kind: Kind) -> Resu
     }
 }
 
-/// The reply with the toggles that the request's token sees. `all`: with those that are off, too.
+/// The reply with the toggles that the request's token sees, or its refusal. `all`: with those that are off, too.
 fn toggles(
     alloc: Global,
     board: &Board,
@@ -207,7 +207,7 @@ fn toggles(
     }
 }
 
-/// As `toggles`, for an accepted token. 400 `BadContext` if the request's context can't be read.
+/// As `toggles`, for an accepted token. 400 `BadContext` if the context in the request can't be read.
 fn toggles_for(
     alloc: Global,
     board: &Board,
@@ -259,7 +259,7 @@ fn query_context(alloc: Global, request: &Request) -> Result<Context, BadContext
     Context::read_query(alloc, query_of(request.target.as_slice()))
 }
 
-/// The context with its environment replaced.
+/// The context with its environment set to `environment`.
 fn placed(alloc: Global, mut context: Context, environment: &str) -> Result<Context, Memory>
     ensures { IfOk result (λ c. c ≡ record context { environment = Some environment.now }) }
 {
@@ -269,7 +269,7 @@ fn placed(alloc: Global, mut context: Context, environment: &str) -> Result<Cont
     }
 }
 
-/// The reply with the document of a feature, or 404 `NoSuchFeature` if the request's token doesn't see it.
+/// The reply with a feature's document, or the token's refusal. 404 `NoSuchFeature` if the token sees no such feature.
 fn feature(
     alloc: Global,
     board: &Board,
@@ -300,9 +300,9 @@ fn feature_of(alloc: Global, ready: &Ready, name: &str) -> Result<Reply, Memory>
     }
 }
 
-/// The reply with the feed: the features and segments that the request's token sees. For clients that don't know
-/// segments, the constraints of each segment are copied into the strategies that use it. 304 if the request has the
-/// feed's tag.
+/// The reply with the feed, or the refusal of the request's token. The feed has the features and segments that the
+/// token sees. For clients that don't know segments, the segments are inlined: their constraints are copied into the
+/// strategies that use them. 304 if the request has the feed's tag.
 fn feed(alloc: Global, board: &Board, request: &Request) -> Result<Reply, Memory>
     ensures { IfOk result (λ r. r ≡ feed_reply board.now request.now (ready_by board.now request.now Kind.Client)) }
 {
@@ -315,7 +315,7 @@ fn feed(alloc: Global, board: &Board, request: &Request) -> Result<Reply, Memory
     }
 }
 
-/// As `feed`, for an accepted token. 503 `TooManyConstraints` if the segments can't be inlined.
+/// As `feed`, for an accepted token. 503 `TooManyConstraints` if a strategy would have more than 100 constraints.
 fn feed_for(
     alloc: Global,
     board: &Board,
@@ -338,7 +338,7 @@ fn feed_for(
     }
 }
 
-/// The tag of a feed. `inlined`: whether its segments are inlined.
+/// The tag of a feed for the token. `inlined`: whether the feed's segments are inlined.
 fn feed_tag(alloc: Global, board: &Board, inlined: bool, ready: &Ready) -> Result<Text, Memory>
     ensures { IfOk result (λ tag. tag ≡ feed_tag board.now inlined ready.now) }
 {
@@ -370,7 +370,7 @@ fn feed_state(alloc: Global, inlined: bool, ready: &Ready) -> Result<State, Inli
     }
 }
 
-/// The reply with this tag and the feed of this state.
+/// The reply 200 with this tag and the feed of this state.
 fn feed_with(alloc: Global, ready: &Ready, tag: Text, state: &State) -> Result<Reply, Memory>
     requires { IsValidState state.now }
     ensures { IfOk result (λ r. r ≡ feed_with ready.now tag (Ok state.now)) }
@@ -387,7 +387,8 @@ fn feed_with(alloc: Global, ready: &Ready, tag: Text, state: &State) -> Result<R
     Ok(tagged_text(tag, text))
 }
 
-/// The reply with the changes since the number in the request's tag, as the request's token sees them.
+/// The reply with the changes since the number in the request's tag, or with the whole state, as the request's token
+/// sees them; or the refusal of the token.
 fn changes(alloc: Global, board: &Board, request: &Request) -> Result<Reply, Memory>
     ensures { IfOk result (λ r. r ≡ delta_reply board.now request.now (ready_by board.now request.now Kind.Client)) }
 {
@@ -410,8 +411,8 @@ fn changes_for(
     news_since(alloc, board, ready, since)
 }
 
-/// The reply with the changes since a number, as the token sees them, or with a hydration (the whole state). 304 if
-/// nothing is new.
+/// The reply with the changes after the number `since`, as the token sees them, or with a hydration (the whole state)
+/// if `since` is `None`, above the version's number, or below its changes that are kept. 304 if nothing is new.
 fn news_since(
     alloc: Global,
     board: &Board,
@@ -454,21 +455,21 @@ fn not_modified_at(
     }
 }
 
-/// The tag of the content at this number, in the epoch of the environment's version.
+/// The tag of the content at this number, in the epoch of the token's environment.
 fn tag_at(alloc: Global, board: &Board, ready: &Ready, number: u64) -> Result<Text, Memory>
     ensures { IfOk result (λ tag. tag ≡ tag_at board.now ready.now number) }
 {
     tag_of(alloc, board, ready.place, epoch_of(ready), number)
 }
 
-/// The epoch of the environment's version.
+/// The epoch of the version of the token's environment.
 fn epoch_of(ready: &Ready) -> u64
     ensures { result ≡ ready.now.version.epoch }
 {
     ready.snapshot.version().epoch
 }
 
-/// Whether the request has this tag.
+/// Whether the request's tag is present and equal to this tag, byte by byte.
 fn has_tag(request: &Request, tag: &str) -> bool
     ensures { result ≡ has_tag tag.now request.now.tag }
 {

@@ -11,8 +11,9 @@ use unl_constraints::read_version;
 use unl_documents::Memory;
 use unl_http_api::{Request, utf8_in};
 
-/// Whether the request names a version of the client specification whose clients don't know segments: a full version of
-/// Semantic Versioning 2.0.0 with precedence below 4.2.0. Without such a version, a client counts as knowing segments.
+/// Whether the request names a version of the client specification (field `Unleash-Client-Spec`) whose clients don't
+/// know segments: a full version of Semantic Versioning 2.0.0 with precedence below 4.2.0. A client that names no such
+/// version counts as knowing segments.
 pub(crate) fn knows_no_segments(alloc: Global, request: &Request) -> Result<bool, Memory>
     ensures { IfOk result (λ old. old ≡ knows_no_segments request.now) }
 {
@@ -22,7 +23,7 @@ pub(crate) fn knows_no_segments(alloc: Global, request: &Request) -> Result<bool
     }
 }
 
-/// Whether the bytes are the text of a full version below 4.2.0.
+/// Whether the bytes are the text of a full version with precedence below 4.2.0.
 fn names_old_version(alloc: Global, bytes: &[u8]) -> Result<bool, Memory>
     ensures { IfOk result (λ old. old ≡ is_before_segments (version_in bytes.now)) }
 {
@@ -32,7 +33,7 @@ fn names_old_version(alloc: Global, bytes: &[u8]) -> Result<bool, Memory>
     }
 }
 
-/// Whether the text is a full version below 4.2.0.
+/// Whether the text is a full version with precedence below 4.2.0.
 fn is_old_version(alloc: Global, text: &str) -> Result<bool, Memory>
     ensures { IfOk result (λ old. old ≡ is_before_segments (version_of text.now)) }
 {

@@ -1,4 +1,4 @@
-//! Adds the report of an answered request to the metrics book.
+//! Adds the report of an answered request to the metrics book (the summed counts of reports).
 ghost use Rattle.std.specs.Prelude.{◌≡◌, Err, IfOk, IfSome, Ok, OnErr, OnOk};
 ghost use Rattle.unl_core.specs.Recording.{final_book, final_reply, summed};
 ghost use Rattle.unl_metrics.specs.Reports.{IsReport};
@@ -11,8 +11,8 @@ use unl_documents::{Memory, Text};
 use unl_http_api::Reply;
 use unl_metrics::{AddRefusal, MetricsBook, Report};
 
-/// Adds the answer's report, if it has one, to the book. Returns the answer's reply, or the refusal 503 `MetricsFull`
-/// if the book has no room for the report; the book is then unchanged.
+/// Adds the answer's report, if it has one, to the book. Returns the answer's reply. If the book has no room for the
+/// report, returns the refusal 503 `MetricsFull` instead, and the book is unchanged.
 ///
 /// # Errors
 /// `Memory`: out of memory. The book is unchanged.
@@ -29,7 +29,8 @@ pub fn record_report(alloc: Global, book: &mut MetricsBook, answer: Answer) -> R
     }
 }
 
-/// Adds the report of an environment to the book. Does nothing if there is no report or no environment.
+/// Adds the report, which is for `environment`, to the book. Does nothing if there is no report or no environment. On
+/// the errors `Full` (the book has no room) and `Memory` the book is unchanged.
 fn sum_up(
     alloc: Global,
     book: &mut MetricsBook,

@@ -9,20 +9,20 @@ use unl_compiled::Snapshot;
 use unl_http_api::Request;
 use unl_tokens::{Book, Kind, Token};
 
-/// Why a request's token is not accepted.
+/// Why a request is refused because of its token.
 #[derive(Clone, Copy)]
 pub enum TokenRefusal {
     /// The request has no token.
     NoToken,
-    /// The book has no such token.
+    /// The token book has no such token.
     UnknownToken,
     /// The token is for the other API: a client token at a frontend route, or the reverse.
     WrongKind,
-    /// The token's environment has no snapshot yet.
+    /// The token's environment has no slot on the board, or no snapshot yet.
     NotReady,
 }
 
-/// The token of a request, found in the book.
+/// The token of a request, found in the token book.
 #[derive(Drop)]
 pub(crate) struct Shown<'b> {
     /// The position of the token in the book, from 0.
@@ -39,7 +39,7 @@ impl<'b> Model for Shown<'b> {
     ghost view = { λ s. record { place = s.place; token = s.token.now } };
 }
 
-/// The token of a request, found in the book, and the snapshot of its environment.
+/// The token of a request, found in the token book, and the snapshot of its environment.
 #[derive(Drop)]
 pub(crate) struct Ready<'b> {
     /// The position of the token in the book, from 0.
@@ -58,7 +58,7 @@ impl<'b> Model for Ready<'b> {
     ghost view = { λ r. record { place = r.place; token = r.token.now; version = r.snapshot.now } };
 }
 
-/// Whether both kinds are the same.
+/// Whether two kinds are equal.
 fn is_kind(found: Kind, kind: Kind) -> bool
     ensures { result ≡ is_kind found kind }
 {
@@ -74,7 +74,7 @@ fn is_kind(found: Kind, kind: Kind) -> bool
     }
 }
 
-/// Finds a token by its text.
+/// The token with this text and its position in the book, or `None` if the book has no such token.
 fn entry_of<'b>(book: &'b Book, text: &[u8]) -> Option<Shown<'b>>
     ensures { result ≡ entry_of text.now book.now }
 {
@@ -84,7 +84,7 @@ fn entry_of<'b>(book: &'b Book, text: &[u8]) -> Option<Shown<'b>>
     }
 }
 
-/// The token at a position, with the position.
+/// The token at a position, with the position. `None` if the book has no such position.
 fn shown_at<'b>(book: &'b Book, place: u32) -> Option<Shown<'b>>
     ensures { result ≡ shown_at book.now place }
 {
@@ -94,7 +94,8 @@ fn shown_at<'b>(book: &'b Book, place: u32) -> Option<Shown<'b>>
     }
 }
 
-/// The token of a request, if the book has it and it is of this kind.
+/// The token of a request, if the board's book has the token and the token is of this kind. Otherwise the refusal:
+/// `NoToken`, `UnknownToken` or `WrongKind`.
 pub(crate) fn shown_by<'b>(
     board: &'b Board,
     request: &Request,
@@ -114,7 +115,7 @@ pub(crate) fn shown_by<'b>(
     Ok(shown)
 }
 
-/// The token with the snapshot of its environment, or `NotReady` if the environment has none yet.
+/// The token with the snapshot of its environment, or `NotReady` if the environment has no slot or no snapshot yet.
 fn with_its_version<'b>(board: &'b Board, shown: &Shown<'b>) -> Result<Ready<'b>, TokenRefusal>
     ensures { result ≡ with_its_version shown.now (snapshot_in shown.now.token.environment board.now.slots) }
 {
@@ -128,7 +129,8 @@ fn with_its_version<'b>(board: &'b Board, shown: &Shown<'b>) -> Result<Ready<'b>
     }
 }
 
-/// The token of a request, if the book has it and it is of this kind, with the snapshot of its environment.
+/// The token of a request, with the snapshot of its environment. The refusals are those of `shown_by`, then that of
+/// `with_its_version`.
 pub(crate) fn ready_by<'b>(
     board: &'b Board,
     request: &Request,

@@ -1,4 +1,4 @@
-//! Writes the entity tags (`ETag`) of answers, and reads the number in the tag of a request.
+//! Writes the entity tags (`ETag`) of replies, and reads the number in the tag of a request (`If-None-Match`).
 ghost use Rattle.std.specs.Prelude.{◌≡◌, [], length, IfOk, string_bytes};
 ghost use Rattle.unl_core.specs.Tag.{if_spelled, inlined_tag, number_of_tag, number_part, since_of, tag_prefix, tag_text};
 ghost use Rattle.unl_core.specs.Tag.{whole_in, with_epoch};
@@ -10,7 +10,8 @@ use unl_documents::parsing::read_json;
 use unl_documents::{Memory, Text};
 use unl_http_api::Bytes;
 
-/// The tag of the content at the revision `number` within `epoch`, for the token at index `place` of the board's book.
+/// The tag of the content at the revision `number` within `epoch`, for the token at index `place` of the board's token
+/// book. The content of a feed whose segments are inlined has another tag (`inlined_tag_of`).
 pub(crate) fn tag_of(
     alloc: Global,
     board: &Board,
@@ -24,7 +25,7 @@ pub(crate) fn tag_of(
     Ok(Text::from(format!(in alloc; "{prefix}{number}\"")?))
 }
 
-/// As `tag_of`, for a feed whose segments are inlined.
+/// As `tag_of`, for a feed whose segments are inlined: the tag has an `i` after its number.
 pub(crate) fn inlined_tag_of(
     alloc: Global,
     board: &Board,
@@ -59,8 +60,8 @@ fn epoch_mark(alloc: Global, epoch: u64) -> Result<String, AllocError>
     format!(in alloc; "{epoch}.")
 }
 
-/// The number in a request's tag. `None` if there is no tag, or if it isn't exactly the tag of some number for this
-/// token and epoch.
+/// The number in a request's tag. `None` if the request has no tag, or if the tag isn't exactly what `tag_of` returns
+/// for some number, this token and this epoch.
 pub(crate) fn since_of(
     alloc: Global,
     board: &Board,
@@ -76,7 +77,7 @@ pub(crate) fn since_of(
     }
 }
 
-/// As `since_of`, for a given tag.
+/// As `since_of`, for a request that has this tag.
 #[tactic(auto, unfolding(crate::specs::Tag::number_of_tag))]
 fn number_of_tag(
     alloc: Global,
@@ -94,7 +95,7 @@ fn number_of_tag(
     }
 }
 
-/// The number, if the tag is exactly the tag of that number.
+/// The number, if the tag is exactly the tag of that number for this token and epoch, otherwise `None`.
 fn if_spelled(
     alloc: Global,
     board: &Board,
@@ -113,7 +114,7 @@ fn if_spelled(
     }
 }
 
-/// The length of the part before the number, in bytes.
+/// The length of the part of a tag before its number, in bytes.
 fn tag_prefix_length(alloc: Global, board: &Board, place: u32, epoch: u64) -> Result<usize, Memory>
     ensures { IfOk result (λ count. count ≡ length (tag_prefix board.now place epoch)) }
 {
@@ -121,8 +122,8 @@ fn tag_prefix_length(alloc: Global, board: &Board, place: u32, epoch: u64) -> Re
     Ok(prefix.len())
 }
 
-/// The bytes of a tag from `prefix_length` to its last byte, the closing quote, which is excluded. Empty if the tag is
-/// too short.
+/// The bytes of a tag after its first `prefix_length` bytes and before its last byte, where the closing quote belongs.
+/// Empty if the tag has at most `prefix_length` bytes.
 fn number_part(prefix_length: usize, tag: &[u8]) -> &[u8]
     ensures { result.now ≡ number_part prefix_length tag.now }
 {
