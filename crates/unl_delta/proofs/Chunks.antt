@@ -45,7 +45,7 @@ rises_back key (x ∷ xs) ys h = rises_back key xs ys h.1
 
 -- ---- chunks that end before a key, and chunks that don't
 
--- one more item at the front doesn't change the end
+-- one more item at the front doesn't change whether the list ends before the key
 ends_alike : {T : Type 0} (key : T → List ℕ) (k : List ℕ) (x y : T) (ys : List T) → ends_before key k (x ∷ y ∷ ys) ≡ ends_before key k (y ∷ ys)
 ends_alike {T} key k x y ys =
     let more : suc (suc (length ys)) - 1 ≡ suc (length ys) = omega arith in
@@ -202,7 +202,7 @@ each_full {T} chunks full = recursion_from_All (λ (chunk : List T). 1 ≤ lengt
 pub chunks_partitioned : {T : Type 0} (key : T → List ℕ) (k : List ℕ) (chunks : List (List T)) → NoneIsEmpty chunks → AreRising (map key (joined chunks)) → IsPartitionedBy (ends_before key k) chunks
 chunks_partitioned key k chunks full rising = stops key k chunks (each_full chunks full) (rises_from_rising key (joined chunks) rising)
 
--- the chunk at a position, what is before and after it, and that its keys ascend
+-- the chunk at a position: its keys ascend, the items before it come before the key, and the items after it come after the key
 pub record Held {T : Type 0} (key : T → List ℕ) (k : List ℕ) (chunks : List (List T)) (place : ℕ) (chunk : List T) : Type 0 where
   pub inside : place < length chunks
   pub rising : AreRising (map key chunk)
@@ -247,7 +247,7 @@ pub find_in_chunk : {T : Type 0} (key : T → List ℕ) (k : List ℕ) (chunks :
 find_in_chunk {T} key k chunks items place chunk h same =
     find_parts key k (joined (take place chunks)) chunk (joined (drop (place + 1) chunks)) h.low h.high ∙ ap (λ (xs : List T). find (λ (y : T). bytes_eq (key y) k) xs) (sym h.parts ∙ same)
 
--- the other chunks after the chunk at a position was removed
+-- the chunks that are left after the chunk at a position is removed
 pub record Removed {T : Type 0} (chunks others : List (List T)) (place : ℕ) : Type 0 where
   pub full : NoneIsEmpty others
   pub before : take place others ≡ take place chunks
@@ -275,7 +275,7 @@ removed_chunk {T} chunks others place full is =
       behind = ap (drop place) is ∙ drop_removed chunks place ∙ ap (λ (n : ℕ). drop n chunks) next;
     }
 
--- the changed chunk, put back among the others
+-- the changed chunk, put back among the other chunks, gives the changed list
 pub put_back : {T : Type 0} (chunks others : List (List T)) (place : ℕ) (changed items : List T) → Removed chunks others place → (joined (take place chunks) ++ changed) ++ joined (drop (place + 1) chunks) ≡ items
     → (joined (take place others) ++ changed) ++ joined (drop place others) ≡ items
 put_back {T} chunks others place changed items r is =
@@ -284,7 +284,7 @@ put_back {T} chunks others place changed items r is =
 
 -- ---- all chunks end before the key
 
--- if the key's position is after all chunks, all items come before the key
+-- if the position of the key's chunk is after all chunks, all items come before the key
 all_end_before : {T : Type 0} (key : T → List ℕ) (k : List ℕ) (chunks : List (List T)) (items : List T) (place : ℕ) → NoneIsEmpty chunks → joined chunks ≡ items → AreRising (map key items) → place ≡ prefix_len (ends_before key k) chunks → slice_get chunks place ≡ None
     → Every (λ y. cmp (key y) k ≡ Less) items
 all_end_before {T} key k chunks items place full same rising is none =
@@ -310,7 +310,7 @@ find_at_end key k chunks items place full same rising is none = sym (none_same k
 
 -- ---- a filter over chunks
 
--- a function that distributes over concatenation, applied to the chunks so far and one more
+-- a function that distributes over concatenation can be applied chunk by chunk: one step, for the next chunk
 pub gathers_next : {T U : Type 0} (f : List T → List U) (prefix : List U) (chunks : List (List T)) (i : ℕ) (here : List T) (so_far next : List U) → ((xs ys : List T) → f (xs ++ ys) ≡ f xs ++ f ys) → i < length chunks → here ≡ get_or chunks i here
     → so_far ≡ prefix ++ f (joined (take i chunks)) → next ≡ so_far ++ f here → next ≡ prefix ++ f (joined (take (i + 1) chunks))
 gathers_next {T} {U} f prefix chunks i here so_far next parts inside is before now =

@@ -23,7 +23,7 @@ each_at P [] i d inside h = absurd (omega (arith, inside))
 each_at P (x ∷ xs) zero d inside h = h.0
 each_at P (x ∷ xs) (suc i) d inside h = each_at P xs i d (omega (arith, inside)) h.1
 
--- the items that come before the key are at the front
+-- in a sorted list, the items that come before the key are at the front
 pub partitioned : {T : Type 0} (key : T → List ℕ) (k : List ℕ) (xs : List T) → Rises key xs → IsPartitionedBy (λ y. is_before (key y) k) xs
 unfolding Rises
 partitioned key k [] h i j d le lt before = absurd (omega arith)
@@ -83,13 +83,14 @@ greater {T} key k y ys before h = decided (cmp (key y) k) refl before
 abbrev pub represents : {T : Type 0} → (T → List ℕ) → List ℕ → List T → ℕ → Bool
 represents key k xs place = option_map_or (λ y. not (is_before k (key y))) (slice_get xs place) false
 
--- the position splits the items into those below the key, the one with the key if there is one, and those above it
+-- the position splits the items into those that come before the key, the item with the key if there is one, and those that come after the
+-- key
 pub record Parts {T : Type 0} (key : T → List ℕ) (k : List ℕ) (xs : List T) (place : ℕ) (there : Bool) : Type 0 where
   pub low : take place xs ≡ below key k xs
   pub high : drop (cond there (suc place) place) xs ≡ above key k xs
   pub inside : there ≡ true → place < length xs
 
--- the first item doesn't come before the key
+-- the split if the first item doesn't come before the key
 parts_here : {T : Type 0} (key : T → List ℕ) (k : List ℕ) (y : T) (ys : List T) → Rises key (y ∷ ys) → is_before (key y) k ≡ false → Parts key k (y ∷ ys) zero (not (is_before k (key y)))
 unfolding Rises
 parts_here {T} key k y ys h before =
@@ -108,7 +109,7 @@ parts_here {T} key k y ys h before =
       })
     ]
 
--- one more item at the front, which comes before the key
+-- the split after one more item at the front, which comes before the key
 parts_more : {T : Type 0} (key : T → List ℕ) (k : List ℕ) (y : T) (ys : List T) (place : ℕ) (there : Bool) → is_before (key y) k ≡ true → Parts key k ys place there → Parts key k (y ∷ ys) (suc place) there
 parts_more {T} key k y ys place there before rest =
     let after : is_before k (key y) ≡ false = ap is_lt (less_back (key y) k (less_from_test _ before)) in
@@ -145,7 +146,7 @@ parts_at {T} key k (y ∷ ys) (suc place) h is =
 
 -- ---- inserting an item, and removing one
 
--- the same split, for equal lists and equal keys
+-- the split that the code finds, for lists and keys that are equal to the given ones
 pub parts_seen : {T : Type 0} (key : T → List ℕ) (k : List ℕ) (xs shown again : List T) (j i : List ℕ) (place : ℕ) (there known : Bool)
     → AreRising (map key xs) → shown ≡ xs → again ≡ xs → j ≡ k → i ≡ k → place ≡ prefix_len (λ y. is_before (key y) j) shown
     → there ≡ represents key i again place → there ≡ known → Parts key k xs place known

@@ -1,4 +1,4 @@
--- Events and views keep states valid, batches keep versions valid, and the answers of valid versions are valid.
+-- Valid events and views keep states valid, valid batches keep versions valid, and the answers of valid versions are valid.
 use Rattle.std.proofs.Common.{arith, ◌≡◌, ℕ, Bool, true, false, cond, ltb, List, [], ◌∷◌, ◌++◌, map, Option, Some, None, refl, ◌==◌, ◌||◌}
 use Rattle.std.specs.Prelude.{All, filter, IfSome, option_map, unwrap_or}
 use Rattle.std.specs.List.{AllByRecursion as Every, cons_option}

@@ -1,4 +1,4 @@
--- Reading returns what was written.
+-- Reading the JSON value that was written for a batch returns the same batch.
 use Rattle.std.proofs.Common.{◌≡◌, ℕ, ◌+◌, ◌≤◌, Bool, true, false, ltb, List, [], ◌∷◌, map, Option, Some, None, Ok, refl, ◌∙◌, ◌&&◌, not}
 use Rattle.std.specs.Prelude.{codes, drop, option_map}
 use Rattle.std.specs.List.{AllByRecursion as Every}
@@ -32,7 +32,7 @@ present_one (string bytes) is = absurd cc
 present_one (array values) is = absurd cc
 present_one (object inside) is = refl
 
--- an object at a key
+-- an object that is written at a required key is read back
 pub one_back : {T : Type 0} {reads : Data → Reading T} {written : T → Data} {P : T → Type 0} → ComesBack reads written P → (f : Field) (value : Data) (x : T) → P x → at f value ≡ present (written x) → required (object_of reads) f value ≡ Ok x
 unfolding object_of
 one_back {T} {reads} {written} comes f value x valid here =
@@ -106,7 +106,7 @@ unfolding events_from
 events_back [] changes numbers valid readable = refl
 events_back (e ∷ es) changes numbers valid readable = rw (at_back 0 0 e valid.0 readable.0 refl numbers.0, changes_back 0 (number_of e) es changes numbers.1 valid.1 readable.1) refl
 
--- the value of each key, where the epoch and `after` are optional
+-- the members of a written batch, where the epoch and `after` are optional
 record HasMembers (value : Data) (stated since : Option ℕ) (es : List Event) : Type 0 where
   pub epoch : at field.Epoch value ≡ option_map count stated
   pub after : at field.After value ≡ option_map count since

@@ -7,14 +7,14 @@ use Rattle.unl_delta.specs.declared.batch.Verdict.TheVariants.{Apply, Repeat, Ol
 use Rattle.unl_delta.specs.declared.version.Place.{Place}
 use Rattle.unl_delta.specs.Batch.{empty_place, next_version}
 
--- the observable state: the place of each slot (its version, and whether the slot is held), the number of publications (the front),
+-- the observable state: the place of each slot (its version, if any, and whether the slot is held), the number of publications (the front),
 -- and the current book of tokens
 pub record Installed : Type 0 where
   pub places : List Place
   pub front : ℕ
   pub book : List Token
 
--- the place of a slot
+-- the place of the slot at an index; the empty place if there is no such slot
 abbrev pub place_of : Installed → ℕ → Place
 place_of now slot = unwrap_or (slice_get now.places slot) empty_place
 
@@ -51,8 +51,8 @@ ByVerdict Repeat installs holds stays = stays
 ByVerdict Old installs holds stays = stays
 ByVerdict Held installs holds stays = stays
 
--- the option is the result of installing a book of tokens: `None` if the book equals the current one, and then nothing changes;
--- otherwise the new front, and then the book is published
+-- the result of installing a book of tokens: `None` if the book equals the current one, and then nothing changes; otherwise the new front,
+-- and then the book is published
 abbrev pub IsBookInstalled : List Token → Installed → Option ℕ → Installed → Type 0
 IsBookInstalled book old None new = (book ≡ old.book) × (new ≡ old)
 IsBookInstalled book old (Some front) new =

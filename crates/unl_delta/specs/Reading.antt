@@ -1,5 +1,5 @@
--- How events and batches are read from JSON: the keys of each in order, each with the kind of its value. The JSON form is chosen by
--- this project.
+-- How events and batches are read from JSON: which keys, in which order, and what kind of value each must have. The JSON form of events and
+-- batches is chosen by this project.
 use Rattle.std.specs.Prelude.{ℕ, ◌+◌, List, [], ◌∷◌, codes, length, ◌&&◌, not, nat_lt, Option, option_and_then, option_map, Result, Ok}
 use Rattle.std.specs.Prelude.{Err, ok_or, if◌then◌else◌, None}
 use Rattle.std.specs.Option.{option_or}
@@ -37,7 +37,7 @@ feature_updated_of value = do
   feature ← required (object_of feature_of) field.Feature value
   Ok (FeatureUpdated number feature)
 
--- reads an event: a feature was removed from a project
+-- reads an event: a feature was removed from a project, which is `default` if the key is absent or null
 unfoldable pub feature_removed_of : Data → Reading Event
 feature_removed_of value = do
   number ← required any_whole field.EventId value
@@ -69,7 +69,7 @@ event_of_type word value =
     if bytes_eq word (codes "segment-removed") then segment_removed_of value else (
     Err (WrongKind field.Kind))))))
 
--- reads an event, or returns its first fault
+-- reads an event: first its type, then the keys of that type; or returns its first fault
 unfoldable pub event_of : Data → Reading Event
 event_of value = do
   word ← required any_text field.Kind value
@@ -86,8 +86,8 @@ abbrev pub at_place : ℕ → Reading Event → Result Event BadBatch
 at_place place (Ok event) = Ok event
 at_place place (Err e) = Err (BadEvent place)
 
--- checks the event at index `place`: it is a hydration only if it is the first event, and its number is not below `before`, the number
--- of the event before it
+-- checks the event at index `place`: it is a hydration only if it is the first event, and its number is at least `before`, the number of
+-- the event before it
 unfoldable pub in_order : ℕ → ℕ → Event → Result Event BadBatch
 in_order place before event =
     if nat_lt 0 place && not (is_change event) then Err (HydrationNotFirst place)
@@ -99,7 +99,7 @@ event_at place before value = do
   event ← at_place place (event_of value)
   in_order place before event
 
--- reads the events from index `place` on, or returns the first fault
+-- reads the events from index `place` on, or returns the first fault; `before` is the number of the event before them
 unfoldable pub events_from : ℕ → ℕ → Items → Result (List Event) BadBatch
 events_from place before no_items = Ok []
 events_from place before (item value values) = do
@@ -107,13 +107,13 @@ events_from place before (item value values) = do
   others ← events_from (place + 1) (number_of event) values
   Ok (event ∷ others)
 
--- any fault in a key other than `events` becomes `NotJson`
+-- any fault in the keys `epoch` and `after` of a batch becomes `NotJson`
 abbrev pub or_not_json : {T : Type 0} → Reading T → Result T BadBatch
 or_not_json (Ok x) = Ok x
 or_not_json (Err e) = Err NotJson
 
--- reads a batch from a JSON value; if the key `after` is absent, the batch gets `held`, the number that the requester sent, and if the
--- key `epoch` is absent, it gets epoch 0
+-- reads a batch from a JSON value; if the key `after` is absent or null, the batch gets `held`, the number that the requester sent, and if
+-- the key `epoch` is absent or null, the epoch is 0
 unfoldable pub batch_of : Option ℕ → Data → BatchReading
 batch_of held value = do
   items ← ok_or (option_and_then as_array (at field.Events value)) NotJson
@@ -126,7 +126,7 @@ batch_of held value = do
 abbrev pub longest_batch : ℕ
 longest_batch = 16777216
 
--- reads a batch from bytes of JSON
+-- reads a batch from bytes of JSON; `NotJson` if there are more than `longest_batch` bytes, or if they are not JSON
 unfoldable pub batch_of_bytes : Option ℕ → List ℕ → BatchReading
 batch_of_bytes held bytes = if nat_lt longest_batch (length bytes) then Err NotJson else (ok_or (json_of bytes) NotJson >>= batch_of held)
 

@@ -1,8 +1,8 @@
--- Revisions of an environment, and their order: by epoch, then by number.
+-- Revisions of an environment, named by epoch and number, and their order: by epoch, then by number.
 use Rattle.std.specs.Prelude.{◌≡◌, ℕ, ◌==◌, ◌<◌, ◌≤◌, Bool, ◌&&◌, ◌||◌, nat_lt, ◌⊎◌}
 use Rattle.unl_delta.specs.declared.version.EnvVersion.{EnvVersion}
 
--- a revision: a number, in the numbering of an epoch
+-- names a revision: the state after the events of an epoch with numbers up to this number
 pub record Revision : Type 0 where
   pub epoch : ℕ
   pub number : ℕ
@@ -11,7 +11,7 @@ pub record Revision : Type 0 where
 abbrev pub revision_of : EnvVersion → Revision
 revision_of v = record { epoch = v.epoch; number = v.number }
 
--- whether the first revision is older than the second (chosen by this project)
+-- whether the first revision is older than the second (this order is chosen by this project)
 abbrev pub is_older : Revision → Revision → Bool
 is_older these those = nat_lt these.epoch those.epoch || ((these.epoch == those.epoch) && nat_lt these.number those.number)
 

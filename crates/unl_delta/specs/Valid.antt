@@ -1,5 +1,5 @@
--- Well-formed batches and versions (kinds and numbers of events), and valid batches and versions (well formed, with contents within
--- the limits).
+-- Well-formed batches and versions (which kinds of events they have, and in which order), and valid batches and versions (well formed, with
+-- contents within the limits).
 use Rattle.std.specs.Prelude.{ℕ, ◌≡◌, ◌≤◌, ◌+◌, List, [], ◌∷◌, drop, length, true, IfSome}
 use Rattle.std.specs.List.{AllByRecursion}
 use Rattle.unl_documents.specs.Limits.{IsName}
@@ -17,18 +17,18 @@ use Rattle.unl_delta.specs.State.{number_of, entry_number, is_change}
 
 -- ---- the order of events
 
--- the numbers never decrease, and the first is at least low
+-- the items' numbers never decrease, and the first is at least `low`
 abbrev pub NeverFall : {T : Type 0} → (T → ℕ) → ℕ → List T → Type 0
 NeverFall number low [] = Unit {0}
 NeverFall number low (x ∷ xs) = (low ≤ number x) × NeverFall number (number x) xs
 
--- well formed: only the first event can be a hydration, and the numbers never decrease
+-- the batch is well formed: only its first event can be a hydration, and the numbers never decrease
 pub record IsBatch (batch : Batch) : Type 0 where
   pub changes : AllByRecursion (λ e. is_change e ≡ true) (drop 1 batch.events)
   pub numbers : NeverFall number_of 0 batch.events
 
--- well formed: the entries are changes, and their numbers never decrease, are above `base` (entries with numbers up to `base` are
--- dropped) and are at most the version's number
+-- the version is well formed: `base` (entries with numbers up to `base` are dropped) is at most the version's number, and the entries are
+-- changes, whose numbers never decrease, are above `base` and are at most the version's number
 pub record IsVersion (v : EnvVersion) : Type 0 where
   pub base : v.base ≤ v.number
   pub changes : AllByRecursion (λ entry. is_change entry.event ≡ true) v.entries
@@ -37,7 +37,7 @@ pub record IsVersion (v : EnvVersion) : Type 0 where
 
 -- ---- the contents of events
 
--- the state, feature, segment or names of an event are within the limits
+-- the state, feature, segment or names of an event are within the limits of documents
 abbrev pub IsValidEvent : Event → Type 0
 IsValidEvent (Hydration n state) = IsValidState state
 IsValidEvent (FeatureUpdated n feature) = IsValidFeature feature
@@ -45,7 +45,7 @@ IsValidEvent (FeatureRemoved n name project) = IsName name × IsName project
 IsValidEvent (SegmentUpdated n segment) = IsValidSegment segment
 IsValidEvent (SegmentRemoved n id) = Unit {0}
 
--- the event of an entry is within the limits, and so is `was`, the name of the project that its feature was in before the event
+-- the event of an entry is within the limits, and so is `was`, if present: the project that the event's feature was in before the event
 abbrev pub IsValidEntry : Entry → Type 0
 IsValidEntry entry = IsValidEvent entry.event × IfSome entry.was IsName
 
@@ -72,7 +72,7 @@ pub record IsValidVersion (v : EnvVersion) : Type 0 where
 abbrev pub IsValidPlace : Place → Type 0
 IsValidPlace place = IfSome place.version IsValidVersion
 
--- the answer has no batch, or a valid batch
+-- the answer has no batch, or its batch is valid
 abbrev pub IsValidAnswer : DeltaAnswer → Type 0
 IsValidAnswer Same = Unit {0}
 IsValidAnswer (Sent batch) = IsValidBatch batch

@@ -38,7 +38,7 @@ event_data (SegmentRemoved number id) = object (
     with field.SegmentId (count id)
     no_members)))
 
--- the JSON value of a batch; `epoch` and `after` are left out if they are `None`
+-- the JSON value of a batch with this epoch, this `after` and these events; `epoch` and `after` are left out if they are `None`
 unfoldable pub batch_with : Option ℕ → Option ℕ → List Event → Data
 batch_with epoch after events = object (
     with_some field.Epoch (option_map count epoch) (

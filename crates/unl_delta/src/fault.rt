@@ -8,11 +8,11 @@ use unl_documents::Memory;
 /// Why a batch couldn't be read: the first fault found, or out of memory.
 #[derive(Clone, Copy, Debug, PartialEq, Eq, Error)]
 pub enum BadBatch {
-    /// The bytes are not JSON or are more than 16,777,216; or `events` is not a list; or `epoch` or `after` is not a
-    /// whole number from 0 to 2^64 - 1.
+    /// The bytes are not JSON or are more than 16,777,216; or `events` is missing or not a list; or `epoch` or `after`
+    /// is present but not a whole number from 0 to 2^64 - 1. A key whose value is null counts as missing.
     #[error("the batch is not JSON")]
     NotJson,
-    /// An event can't be read. The field is the index of the event in the list, counted from 0.
+    /// An event can't be read. The field of this variant is the index of the event in the list, counted from 0.
     #[error("event {0} is not accepted")]
     BadEvent(u64),
     /// A hydration comes after another event. The field is the index of the hydration.

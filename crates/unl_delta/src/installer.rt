@@ -14,10 +14,11 @@ use unl_documents::Memory;
 use unl_tokens::Book;
 
 /// Keeps a [`Place`] for each slot and a [`Book`] of tokens. Publishes each new version and each new book to readers.
-/// A slot is the index of an environment, from 0. A version is the state of that environment, with its last events.
+/// Each slot is for one environment. The calls name a slot by its index, from 0. A version is the state of the slot's
+/// environment, with its last events.
 ///
-/// The front is the number of publications so far. A call leaves all places and the book unchanged except the one that
-/// it is for. It leaves everything unchanged if it runs out of memory.
+/// The front is the number of publications so far. A call changes at most the place of its slot or the book, and the
+/// front. If it runs out of memory, it changes nothing.
 pub trait Installer {
     /// The places, the front and the current book of the installer.
     ghost installed: { Self → Installed };
@@ -44,11 +45,11 @@ pub trait Installer {
         ensures place { result.now ≡ place_of (installed self.now) slot }
         ensures valid { IsValidPlace result.now };
 
-    /// Applies a batch to a slot, publishes the new version and returns the new front. The slot is then not held. The
-    /// verdict on the batch must be `Apply`. The only error is out of memory.
+    /// Applies a valid batch to a slot, publishes the new version and returns the new front. The slot is then not held.
+    /// The verdict on the batch must be `Apply`, and the front must be below 2^64 - 1. The only error is out of memory.
     ///
     /// Clause `represents`: a line is the histories of one environment, one for each epoch. If the slot's version is a
-    /// revision of a line and the batch was sent from that line, the new version is a revision of that line too.
+    /// revision of a line and the batch was sent from it, the new version is a revision of it too, and is not older.
     fn install(&mut self, alloc: Global, slot: usize, batch: &Batch) -> Result<u64, Memory>
         requires slot { slot < length (installed self.old).places }
         requires front { (installed self.old).front < 2 ^ 64 - 1 }
@@ -61,7 +62,7 @@ pub trait Installer {
         ensures front { IfOk result (λ front. front ≡ (installed self.new).front) }
         ensures memory { OnErr result (installed self.new ≡ installed self.old) };
 
-    /// Holds a slot: from now on only a hydration can apply there. The slot keeps its version. Publishes nothing and
+    /// Holds a slot: no changes apply there until a hydration does. The slot keeps its version. Publishes nothing and
     /// allocates nothing.
     fn hold(&mut self, slot: usize)
         requires { slot < length (installed self.old).places }
@@ -70,7 +71,7 @@ pub trait Installer {
         ensures whole { holds slot self.old self.new };
 
     /// Publishes a book and returns the new front. Returns `None` and publishes nothing if and only if the book equals
-    /// the current book. The only error is out of memory.
+    /// the current book. The front must be below 2^64 - 1. The only error is out of memory.
     fn install_book(&mut self, alloc: Global, book: Book) -> Result<Option<u64>, Memory>
         requires { (installed self.old).front < 2 ^ 64 - 1 }
         ensures book { IfOk result (λ front. IsBookInstalled book (installed self.old) front (installed self.new)) }

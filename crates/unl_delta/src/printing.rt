@@ -16,7 +16,7 @@ use json::Writer;
 use unl_documents::write_json::{WriteJson, print_at, print_some, print_unless_zero};
 use unl_documents::{Feature, Field, Memory, Segment, Shared, State, Text};
 
-/// Writes the start of an event: the brace and the number.
+/// Writes the start of an event: the opening brace and the number.
 fn begin_event(out: &mut Writer, number: u64) -> Result<(), Memory>
     ensures { OnOk result (Wrote (begin_object ∷ tokens_at field.EventId (count number)) out.old out.new) }
 {
@@ -24,7 +24,7 @@ fn begin_event(out: &mut Writer, number: u64) -> Result<(), Memory>
     print_at(out, Field::EventId, &number)
 }
 
-/// Writes the end of an event: the type `word` and the brace.
+/// Writes the end of an event: the type `word` and the closing brace.
 fn end_event(out: &mut Writer, word: &str) -> Result<(), Memory>
     ensures { OnOk result (Wrote (tokens_at field.Kind (string word.now) ++ end_object ∷ []) out.old out.new) }
 {

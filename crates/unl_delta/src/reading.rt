@@ -1,4 +1,4 @@
-//! Reads batches from JSON. The JSON form of batches is chosen by this project.
+//! Reads batches from JSON, and converts feeds to batches. The JSON form of batches is chosen by this project.
 ghost use Rattle.std.specs.Prelude.{◌≡◌, IfOk, IfSome};
 ghost use Rattle.std.specs.List.{AllByRecursion};
 ghost use Rattle.serde_json.specs.View.{view, items_view};
@@ -82,7 +82,7 @@ fn read_segment_removed(alloc: Global, value: &Value) -> Result<Event, BadDocume
     Ok(Event::SegmentRemoved { number, id })
 }
 
-/// Reads an event of the type `word`.
+/// Reads an event of the type `word`, such as `hydration`. The error is `WrongKind` if the type is unknown.
 #[tactic(auto, unfolding(crate::specs::Reading::event_of_type))]
 fn read_event_of_type(alloc: Global, word: &str, value: &Value) -> Result<Event, BadDocument>
     ensures gives { Reads result (event_of_type word.now (view value.now)) }
@@ -108,7 +108,8 @@ fn read_event(alloc: Global, value: &Value) -> Result<Event, BadDocument>
     read_event_of_type(alloc, word.as_str(), value)
 }
 
-/// Reads the event at index `place`, without a check against the event before it.
+/// Reads the event at index `place`, without a check of its position and number. Any error other than out of memory
+/// becomes `BadEvent(place)`.
 fn lone_event(alloc: Global, place: usize, value: &Value) -> Result<Event, BadBatch>
     ensures gives { Gives memory result (at_place place (event_read (view value.now))) }
     ensures valid { IfOk result IsValidEvent }
@@ -120,7 +121,9 @@ fn lone_event(alloc: Global, place: usize, value: &Value) -> Result<Event, BadBa
     }
 }
 
-/// Checks the event at index `place` against the number of the event before it.
+/// Returns the event at index `place` if it is in order. The error is `HydrationNotFirst` if it is a hydration but not
+/// the first event; otherwise `NotRising` if its number is less than `before`, the number of the event before it (0 if
+/// there is none).
 #[tactic(auto, unfolding(crate::specs::Reading::in_order))]
 fn in_order(place: usize, before: u64, event: Event) -> Result<Event, BadBatch>
     ensures order { result ≡ ordered place before event }
@@ -135,7 +138,8 @@ fn in_order(place: usize, before: u64, event: Event) -> Result<Event, BadBatch>
     Ok(event)
 }
 
-/// Reads the event at index `place` and checks it against the number of the event before it.
+/// Reads the event at index `place` and checks it by [`in_order`]. `before` is the number of the event before it, or 0
+/// if there is none.
 #[tactic(auto, unfolding(crate::specs::Reading::event_at))]
 fn event_at(alloc: Global, place: usize, before: u64, value: &Value) -> Result<Event, BadBatch>
     ensures gives { Gives memory result (event_read_at place before (view value.now)) }
@@ -164,7 +168,7 @@ fn events_of(alloc: Global, values: &[Value]) -> Result<List<Event>, BadBatch>
     Ok(events)
 }
 
-/// Reads the epoch of a batch. It is 0 if the key is absent or null.
+/// Reads the epoch of a batch: 0 if the key is absent or null. Any fault other than out of memory becomes `NotJson`.
 fn epoch_of(alloc: Global, value: &Value) -> Result<u64, BadBatch>
     ensures { Gives memory result
         (or_not_json (defaulted_at 0 any_whole field.Epoch (view value.now))) }
@@ -176,7 +180,8 @@ fn epoch_of(alloc: Global, value: &Value) -> Result<u64, BadBatch>
     }
 }
 
-/// Reads the number `after` of a batch, if the key is present.
+/// Reads the number `after` of a batch: `None` if the key is absent or null. Any fault other than out of memory
+/// becomes `NotJson`.
 fn after_of(alloc: Global, value: &Value) -> Result<Option<u64>, BadBatch>
     ensures gives { Gives memory result
         (or_not_json (optional_at any_whole field.After (view value.now))) }
@@ -188,7 +193,7 @@ fn after_of(alloc: Global, value: &Value) -> Result<Option<u64>, BadBatch>
     }
 }
 
-/// As [`read_batch`], with a weaker clause `valid`.
+/// As [`read_batch`], but the clause `valid` says only that each event is valid.
 #[tactic(auto, unfolding(crate::specs::Reading::batch_of))]
 fn batch_of(alloc: Global, value: &Value, held: Option<u64>) -> Result<Batch, BadBatch>
     ensures gives { Gives memory result (batch_read held (view value.now)) }
@@ -207,14 +212,14 @@ fn batch_of(alloc: Global, value: &Value, held: Option<u64>) -> Result<Batch, Ba
     })
 }
 
-/// Reads a batch from a JSON value. If the key `after` is absent, the batch gets `held` instead: the number that the
-/// requester sent in its request.
+/// Reads a batch from a JSON value. If the key `after` is absent or null, the batch gets `held` instead: the number
+/// that the requester sent in its request. If the key `epoch` is absent or null, the epoch is 0.
 ///
 /// # Errors
 ///
-/// `NotJson` if `events` is not a list, or if `epoch` or `after` is not a whole number from 0 to 2^64 - 1. Otherwise
-/// the fault of the first event that has a fault: `BadEvent`, `HydrationNotFirst` or `NotRising`. `Memory` if memory
-/// runs out.
+/// `NotJson` if `events` is missing or not a list, or if `epoch` or `after` is present but not a whole number from 0 to
+/// 2^64 - 1. Otherwise the fault of the first event that has a fault: `BadEvent`, `HydrationNotFirst` or `NotRising`.
+/// `Memory`: out of memory.
 pub fn read_batch(alloc: Global, value: &Value, held: Option<u64>) -> Result<Batch, BadBatch>
     ensures gives { Gives memory result (batch_read held (view value.now)) }
     ensures valid { IfOk result IsValidBatch }
@@ -226,8 +231,8 @@ pub fn read_batch(alloc: Global, value: &Value, held: Option<u64>) -> Result<Bat
 ///
 /// # Errors
 ///
-/// `NotJson` if there are more than 16,777,216 bytes (chosen by this project) or if the bytes are not JSON; otherwise
-/// as [`read_batch`].
+/// `NotJson` if there are more than 16,777,216 bytes (this limit is chosen by this project) or if the bytes are not
+/// JSON; otherwise as [`read_batch`].
 #[tactic(auto, unfolding(crate::specs::Reading::batch_of_bytes))]
 pub fn read_batch_bytes(alloc: Global, bytes: &[u8], held: Option<u64>) -> Result<Batch, BadBatch>
     ensures gives { Gives memory result (batch_of_bytes held bytes.now) }

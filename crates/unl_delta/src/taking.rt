@@ -1,4 +1,5 @@
-//! `take_batch`: the only function through which a batch changes the version of a slot.
+//! `take_batch`: decides whether a batch applies to a slot, and then installs the batch, holds the slot, or changes
+//! nothing.
 ghost use Rattle.std.specs.Prelude.{◌≡◌, ◌<◌, ◌-◌, ◌^◌, IfOk, OnErr, OnOk, length};
 ghost use Rattle.unl_delta.specs.Batch.{verdict_of};
 ghost use Rattle.unl_delta.specs.History.{PreservesLines};
@@ -11,12 +12,14 @@ use crate::verdicts::verdict;
 use std::alloc::Global;
 use unl_documents::Memory;
 
-/// Decides on a batch for a slot, carries out the verdict and returns it. `Apply` installs and publishes the batch,
-/// `Gap` holds the slot, and any other verdict changes nothing.
+/// Decides on a batch for a slot, carries out the verdict and returns it. `Apply` applies the batch and publishes the
+/// new version, `Gap` holds the slot, and any other verdict changes nothing. The number of publications must be below
+/// 2^64 - 1.
 ///
-/// A line of histories has, for each epoch of an environment, the list of its events. Clause `represents`: if the
-/// slot's version represents a line and the batch was sent from that line, the slot's version afterwards represents the
-/// line too, and is not older.
+/// A line has the history (the list of all changes) of each epoch of an environment. A version represents a line if it
+/// results from its epoch's history: from the changes up to the version's number, without what the receiver may not
+/// see. Clause `represents`: if the slot's version, if any, represents a line and the batch was sent from that line,
+/// the slot's version afterwards represents the line too, and is not older.
 ///
 /// # Errors
 ///

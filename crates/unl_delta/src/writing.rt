@@ -19,10 +19,9 @@ use std::alloc::Global;
 use unl_documents::to_value::{ToValue, put, put_some, put_unless_zero, put_value};
 use unl_documents::{Feature, Field, List, Memory, Segment, Shared, State, Text};
 
-/// Inserts the keys that all events have: the type `word` and the number.
+/// Inserts the two keys that all events have: the type `word` and the number.
 ///
-/// The contract lists the members in the order of insertion, so the other keys of an event are inserted before these
-/// two.
+/// In the contract, these two insertions are the outermost, so callers insert the other keys of an event first.
 fn put_head(
     members: &mut Map<String, Value>,
     alloc: Global,
@@ -145,11 +144,12 @@ impl ToValue for Batch {
     }
 }
 
-/// Returns the JSON value of a batch: its events, its `epoch` unless it is 0, and `after` if the batch has this number.
-/// The only error is out of memory.
+/// Returns the JSON value of a batch: its events, its `epoch` unless the epoch is 0, and its `after` unless that is
+/// `None`. The only error is out of memory.
 ///
-/// The value of a valid batch reads back as the same batch, where a missing `after` becomes the requester's number. A
-/// hydration with more than 10,000 features or 1,000 segments is an exception: it is written, but reading rejects it.
+/// If a valid batch is written and read back by [`read_batch`](crate::read_batch), the result is the same batch, except
+/// that an `after` of `None` becomes the argument `held`. This does not hold for a batch with a hydration of more than
+/// 10,000 features or 1,000 segments, which can be written, but is rejected when it is read.
 pub fn write_batch(alloc: Global, batch: &Batch) -> Result<Value, Memory>
     ensures written { IfOk result (λ v. view v ≡ batch_data batch.now) }
     ensures reads_back { IsValidBatch batch.now → AllByRecursion IsReadable batch.now.events
