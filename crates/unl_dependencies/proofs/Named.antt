@@ -1,4 +1,4 @@
--- The feature with a given name is one of the list.
+-- A feature that is found by its name is within its limits if all features of the list are.
 use Rattle.std.proofs.Common.{◌≡◌, ℕ, Bool, true, false, cond, List, [], ◌∷◌, Option, Some, None, Bor, ap, sym, subst}
 use Rattle.std.specs.Prelude.{All, IfSome, option_map, unwrap_or}
 use Rattle.std.specs.Str.{bytes_eq}
@@ -16,7 +16,7 @@ found_valid name [] f is valid = absurd (cc)
 found_valid name (x ∷ xs) f is valid =
     either (bytes_eq x.name name) x f (feature_named name xs) is (All-head IsValidFeature x xs valid) (λ later. found_valid name xs f later (All-tail IsValidFeature x xs valid))
 
--- The feature that is found is within its limits if all features are.
+-- The same for `found`, a reference to a value of another type that stands for the feature: `document` gives the feature of such a value.
 pub named_valid : {F : Type 0} (document : F → Feature) (name : List ℕ) (features : List Feature) (found : Option (Bor F)) → option_map (λ f. document f.now) found ≡ feature_named name features → All IsValidFeature features → IfSome found (λ f. IsValidFeature (document f.now))
 named_valid document name features None is valid = tt
 named_valid document name features (Some f) is valid = found_valid name features (document f.now) (sym is) valid

@@ -1,4 +1,4 @@
--- The least index at which a test passes.
+-- The first active strategy is the one at the least index whose strategy is active, and the loop that looks for it finds it.
 use Rattle.std.proofs.Common.{◌≡◌, ℕ, zero, suc, ◌+◌, ◌<◌, Bool, true, false, cond, List, [], ◌∷◌, length, drop, Option, Some, None, inl, inr, refl, ap, sym, ◌∙◌, subst, arith}
 use Rattle.std.specs.Prelude.{◌↔◌, slice_get, unwrap_or}
 use Rattle.std.specs.Option.{option_map_or}

@@ -12,7 +12,8 @@ abbrev pub evaluation_by : Decision → Evaluation
 evaluation_by Off = off
 evaluation_by (On variant) = on_with (option_map (λ v. v.now) variant)
 
--- Whether a dependency is satisfied by its parent feature, which is `on` or off and has the variant `name`. If the dependency requires
--- the parent to be on, it may also list variants; `name` must then be one of them. Otherwise the parent must be off.
+-- Whether a dependency is satisfied by its parent feature, which is `on` or off and has the variant `name` (`disabled` if it has no
+-- variant). A dependency that is not enabled requires that the parent is off. Any other requires that the parent is on and, if the
+-- dependency lists variants, that `name` is one of them.
 abbrev pub asks_for : Dependency → Bool → List ℕ → Bool
 asks_for d on name = if d.enabled then on && (length d.variants == 0 || is_among d.variants name) else not on

@@ -33,11 +33,11 @@ active_from place (s ∷ ss) feature segments context moment =
     if is_active s feature place segments context moment then Some place
     else active_from (place + 1) ss feature segments context moment
 
--- The index of the feature's first active strategy.
+-- The index of the feature's first active strategy, if there is one.
 unfoldable pub first_active : Feature → List Segment → Fields → Moment → Option ℕ
 first_active f segments context moment = active_from 0 f.strategies f.name segments context moment
 
--- The feature is on: it is enabled, its dependencies are met, and it has no strategies or an active one.
+-- The feature is on: it is enabled, its dependencies are met (`met`), and it has no strategies or an active one.
 unfoldable pub is_on : Bool → Feature → List Segment → Fields → Moment → Bool
 is_on met f segments context moment =
     f.enabled && (met && (length f.strategies == 0 || is_some (first_active f segments context moment)))
@@ -46,8 +46,9 @@ is_on met f segments context moment =
 abbrev pub random_of : Feature → Mark → Moment → ℕ
 random_of f mark moment = random_id (random_number f.name mark moment.word)
 
--- The variant that is chosen for a context, if there is one. A choice by weight hashes `group` together with the text of the context
--- that the stickiness selects. If the stickiness selects no text, the random id `random` is hashed instead.
+-- The variant that is chosen for a context. There is none if the weights sum to 0. The first variant with an override for the context is
+-- chosen, or else one by weight. The choice by weight hashes `group` together with the text of the context that the stickiness selects. If
+-- the stickiness selects no text, the random id `random` is hashed instead.
 unfoldable pub variant_in : List ℕ → List Variant → Fields → ℕ → Option Variant
 variant_in group variants context random = option_and_then (slice_get variants) (choice_of group variants context random)
 
@@ -55,17 +56,18 @@ variant_in group variants context random = option_and_then (slice_get variants) 
 abbrev pub group_of : Feature → Strategy → List ℕ
 group_of f s = parameter_or f.name (codes "groupId") s.parameters
 
--- The variant that is chosen among those of the strategy at the index.
+-- The variant that is chosen among those of the strategy at the index, if there is such a strategy and a variant is chosen.
 unfoldable pub strategy_variant : Feature → Fields → Moment → ℕ → Option Variant
 strategy_variant f context moment place =
     option_and_then (λ s. variant_in (group_of f s) s.variants context (random_of f (mark.Strategy place) moment))
     (slice_get f.strategies place)
 
--- The variant that is chosen among the feature's own.
+-- The variant that is chosen among the feature's own, if one is chosen.
 unfoldable pub own_variant : Feature → Fields → Moment → Option Variant
 own_variant f context moment = variant_in f.name f.variants context (random_of f mark.Own moment)
 
--- The variant of the first active strategy, or else the feature's own.
+-- The variant chosen among those of the strategy at the index `first` (the feature's first active strategy, if there is one), or else among
+-- the feature's own.
 unfoldable pub variant_of_feature : Feature → Fields → Moment → Option ℕ → Option Variant
 variant_of_feature f context moment first =
     option_or (option_and_then (strategy_variant f context moment) first) (own_variant f context moment)
@@ -79,11 +81,11 @@ variant_answer (Some v) = record { name = v.name; enabled = true; payload = v.pa
 abbrev pub off : Evaluation
 off = record { on = false; variant = variant_answer None }
 
--- The evaluation of a feature that is on, with this variant.
+-- The evaluation of a feature that is on, with this variant, if there is one.
 abbrev pub on_with : Option Variant → Evaluation
 on_with variant = record { on = true; variant = variant_answer variant }
 
--- The evaluation of a feature, given whether its dependencies are met.
+-- The evaluation of a feature, given whether its dependencies are met (`met`).
 unfoldable pub evaluation_where : Bool → Feature → List Segment → Fields → Moment → Evaluation
 evaluation_where met f segments context moment =
     if is_on met f segments context moment
@@ -93,9 +95,9 @@ evaluation_where met f segments context moment =
 abbrev pub feature_named : List ℕ → List Feature → Option Feature
 feature_named name features = find (λ f. bytes_eq f.name name) features
 
--- The parent's evaluation is the one that the dependency requires. A dependency that is not enabled requires that the parent is
--- off. Any other requires that the parent is on and, if the dependency lists variants, that the parent's variant is one of
--- them. Without a variant, the name `disabled` is compared like any other name.
+-- The parent's evaluation is the one that the dependency requires. A dependency that is not enabled requires that the parent is off. Any
+-- other requires that the parent is on and, if the dependency lists variants, that the parent's variant is one of them. A parent without a
+-- variant counts as having the variant `disabled`.
 abbrev pub agrees : Dependency → Evaluation → Bool
 agrees d parent =
     if d.enabled then parent.on && (length d.variants == 0 || is_among d.variants parent.variant.name) else not parent.on

@@ -21,19 +21,20 @@ abbrev pub NoneWhereLacking : Type 0
 NoneWhereLacking = (state : State) (name : List ℕ) (context : Fields) (moment : Moment)
     → (evaluation_of state name context moment ≡ None) ↔ Lacks state name
 
--- Each feature of a valid state is found by its name.
+-- Evaluating by name finds each feature of a valid state: the result is the evaluation of that feature.
 abbrev pub EachIsFound : Type 0
 EachIsFound = (state : State) (place : ℕ) (f : Feature) (context : Fields) (moment : Moment)
     → IsValidState state → slice_get state.features place ≡ Some f → evaluation_of state f.name context moment
     ≡ Some (feature_evaluation state f context moment)
 
--- A parent without dependencies has the same evaluation in the state and on its own, with nothing but the segments.
+-- The evaluation of a parent without dependencies depends on nothing in the state but the segments.
 abbrev pub ParentEvaluatesAlone : Type 0
 ParentEvaluatesAlone = (state : State) (parent : Feature) (context : Fields) (moment : Moment)
     → length parent.dependencies ≡ 0 → feature_evaluation state parent context moment
     ≡ evaluation_where true parent state.segments context moment
 
--- Inlining the segments of a state changes no evaluation.
+-- Inlining the segments of a state changes no evaluation by name. Inlining copies the constraints of each segment into the strategies that
+-- refer to the segment.
 abbrev pub InliningChangesNothing : Type 0
 InliningChangesNothing = (state : State) (name : List ℕ) (context : Fields) (moment : Moment)
     → evaluation_of (inlined state) name context moment ≡ evaluation_of state name context moment
@@ -57,8 +58,8 @@ NoneIsActive = (f : Feature) (segments : List Segment) (context : Fields) (momen
 abbrev pub if_seen : (List ℕ → Bool) → Feature → Option Feature
 if_seen sees f = if sees f.project then Some f else None
 
--- If the names are strictly ascending, looking up a name among the visible features gives the feature with that name among
--- all features if it is visible, and otherwise none.
+-- Let the names of the features be strictly ascending. Looking up a name among the features of visible projects gives the feature with that
+-- name among all features if this feature's project is visible, and otherwise none.
 abbrev pub SeenAmongAll : Type 0
 SeenAmongAll = (sees : List ℕ → Bool) (name : List ℕ) (features : List Feature)
     → AreRising (map name_key features) → feature_named name (filter (λ f. sees f.project) features)

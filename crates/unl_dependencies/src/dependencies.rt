@@ -14,8 +14,8 @@ use unl_context::Context;
 use unl_documents::{Dependency, Memory, Text};
 use unl_strategies::Moment;
 
-/// Whether all of the dependencies are met in a state. The state's documents are within their limits. The only error is
-/// out of memory.
+/// Whether all of the dependencies are met in a state, for a context at a moment. The state must be valid: documents
+/// within their limits, names and ids strictly ascending. The only error is out of memory.
 #[tactic(auto, unfolding(crate::specs::Evaluation::dependencies_met))]
 pub fn all_met<F: Features>(
     alloc: Global,
@@ -36,8 +36,8 @@ pub fn all_met<F: Features>(
     Ok(true)
 }
 
-/// Whether a dependency is met: the state has the parent, and the parent satisfies the dependency. The state's documents are
-/// within their limits. The only error is out of memory.
+/// Whether a dependency is met: the state has the parent, and the parent satisfies the dependency. The state must be
+/// valid: documents within their limits, names and ids strictly ascending. The only error is out of memory.
 #[tactic(auto, unfolding(crate::specs::Evaluation::is_met))]
 pub fn is_met<F: Features>(
     alloc: Global,
@@ -55,8 +55,9 @@ pub fn is_met<F: Features>(
     }
 }
 
-/// Whether a parent satisfies a dependency. The parent is within its limits. A parent that has dependencies of its own
-/// satisfies no dependency, so a parent's parents are never considered. The only error is out of memory.
+/// Whether the feature `parent` satisfies a dependency. The name of `parent` is not checked. A parent that has
+/// dependencies of its own satisfies no dependency, so a parent's parents are never considered. The parent must be
+/// within its limits. The only error is out of memory.
 #[tactic(auto, unfolding(crate::specs::Evaluation::is_met_by))]
 pub fn is_met_by<F: Features>(
     alloc: Global,
@@ -79,8 +80,8 @@ pub fn is_met_by<F: Features>(
 
 /// Whether the evaluation of a parent is the one that a dependency requires. A dependency that is not `enabled`
 /// requires that the parent is off. Any other requires that the parent is on and, if the dependency lists variants,
-/// that the parent's variant is one of them. Without a variant, the name `disabled` is compared like any other name.
-/// Does not allocate.
+/// that the parent's variant is one of them. A parent without a variant counts as having the variant `disabled`. Does
+/// not allocate.
 pub fn agrees(dependency: &Dependency, parent: &Evaluation) -> bool
     ensures { result ≡ agreeing dependency.now parent.now }
 {
@@ -98,7 +99,8 @@ fn decision_agrees(dependency: &Dependency, parent: Decision) -> bool
     }
 }
 
-/// Whether a dependency accepts a parent with this result: on or off, and with the variant of this name.
+/// Whether a dependency accepts a parent that is `on` or off and has the variant with this name (`disabled` if it has
+/// none).
 fn asks_for(dependency: &Dependency, on: bool, variant: &str) -> bool
     ensures { result ≡ asks_for_parent dependency.now on variant.now }
 {

@@ -14,8 +14,9 @@ use unl_context::Context;
 use unl_documents::Memory;
 use unl_strategies::Moment;
 
-/// Evaluates the feature with the given name for a context at a moment, in a state whose documents are within their limits.
-/// Returns `Ok(None)` exactly if the state has no feature with that name. The only error is out of memory.
+/// Evaluates the feature with the given name for a context at a moment. The state must be valid: documents within their
+/// limits, names and ids strictly ascending. Returns `Ok(None)` exactly if the state has no feature with that name. The
+/// only error is out of memory.
 #[tactic(auto, unfolding(crate::specs::Evaluation::evaluation_of))]
 pub fn evaluate<F: Features>(
     alloc: Global,
@@ -34,8 +35,10 @@ pub fn evaluate<F: Features>(
     }
 }
 
-/// Evaluates a feature in a state whose documents are within their limits. Of the state, the result depends only on the
-/// feature's parents and on the segments that its strategies and theirs refer to. The only error is out of memory.
+/// Evaluates a feature for a context at a moment, in a state. The state must be valid: documents within their limits,
+/// names and ids strictly ascending. The feature must be within its limits; it need not be in the state. Of the state,
+/// the result depends only on the feature's parents, and on the segments that the strategies of the feature and its
+/// parents refer to. The only error is out of memory.
 pub fn evaluate_feature<F: Features>(
     alloc: Global,
     features: &F,

@@ -6,7 +6,7 @@ ghost use Rattle.unl_dependencies.specs.Decision.{evaluation_by};
 use std::alloc::Global;
 use unl_documents::{Memory, Payload, Text, TryClone, Variant};
 
-/// The variant name of an evaluation without a variant.
+/// The variant name of an evaluation without a variant: `disabled`.
 pub(crate) fn no_variant() -> &'static str
     ensures { result.now ≡ codes "disabled" }
 {
@@ -18,7 +18,7 @@ pub(crate) fn no_variant() -> &'static str
 pub struct Evaluation {
     /// Whether the feature is on.
     pub on: bool,
-    /// The variant that the context gets.
+    /// The variant that the context gets. There is none if the feature is off.
     pub variant: VariantAnswer,
 }
 
@@ -65,7 +65,8 @@ impl Evaluation {
         })
     }
 
-    /// Returns the evaluation of a feature that is on, with this variant, if there is one. The only error is out of memory.
+    /// Returns the evaluation of a feature that is on, with this variant, if there is one. The only error is out of
+    /// memory.
     pub fn on_with(alloc: Global, variant: Option<&Variant>) -> Result<Evaluation, Memory>
         ensures { IfOk result (λ e. e ≡ evaluation_on_with (option_map (λ v. v.now) variant.entry)) }
     {
@@ -77,7 +78,7 @@ impl Evaluation {
 }
 
 impl VariantAnswer {
-    /// Copies the name and payload of a variant.
+    /// Copies the name and payload of a variant. Without a variant, the name is `disabled`.
     fn of(alloc: Global, variant: Option<&Variant>) -> Result<VariantAnswer, Memory>
         ensures { IfOk result (λ answer. answer ≡ variant_answer (option_map (λ v. v.now) variant.entry)) }
     {

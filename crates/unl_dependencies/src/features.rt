@@ -12,13 +12,14 @@ use unl_context::Context;
 use unl_documents::{Feature, Memory, State};
 use unl_strategies::{Moment, active};
 
-/// The features of a state, for evaluation. [`State`] implements it for single evaluations, and a compiled form can
-/// implement it for many. Contracts describe an implementation by its `state`.
+/// The features of a state, for evaluation. [`State`] implements this trait for single evaluations. A compiled form,
+/// built once for many evaluations, can implement it too. Contracts describe an implementation by the state that it
+/// represents (`state`).
 pub trait Features {
-    /// The representation of a feature.
+    /// How the implementation represents a feature.
     type Feature: Drop;
 
-    /// The state that is evaluated, with its features and segments.
+    /// The state that the implementation represents: its features and segments.
     ghost state: { Self → Whole };
 
     /// The document of a feature.

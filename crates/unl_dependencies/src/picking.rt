@@ -17,8 +17,9 @@ use unl_documents::{Feature, List, Memory, Variant};
 use unl_strategies::{Mark, Moment, parameter_or, random_for, random_id};
 use unl_variants::choose;
 
-/// Evaluates a feature. `met` says whether its dependencies are met. The feature is within its limits. The only error
-/// is out of memory.
+/// Evaluates a feature for a context at a moment. `met` says whether the feature's dependencies are met; they are not
+/// evaluated here. Of the state, only the segments are used. The feature must be within its limits. The only error is
+/// out of memory.
 pub fn evaluate_where<F: Features>(
     alloc: Global,
     met: bool,
@@ -59,8 +60,8 @@ pub(crate) fn decision_where<'a, F: Features>(
     Ok(Decision::On(variant_of(document, context, moment, first)))
 }
 
-/// Returns the index, from 0, of the first strategy that is active, or `None` if none is. The feature is within its limits.
-/// The only error is out of memory.
+/// Returns the index, from 0, of the first strategy that is active, or `None` if none is. The feature must be within
+/// its limits. The only error is out of memory.
 pub fn first_active<F: Features>(
     alloc: Global,
     features: &F,
@@ -98,8 +99,9 @@ fn first_among<F: Features>(
     Ok(None)
 }
 
-/// Returns the variant of a feature that is on, given the index of its first active strategy: that strategy's variant, or
-/// else the feature's own. The feature is within its limits. Does not allocate.
+/// Returns the variant of a feature that is on. `first` is the index of the feature's first active strategy, if there
+/// is one. The variant is chosen among those of this strategy, or else among the feature's own. The feature must be
+/// within its limits. Does not allocate.
 #[tactic(auto, unfolding(crate::specs::Evaluation::variant_of_feature))]
 pub fn variant_of<'a>(
     feature: &'a Feature,
@@ -119,9 +121,9 @@ pub fn variant_of<'a>(
     }
 }
 
-/// Returns the variant that is chosen among those of the strategy at the index `place`, from 0. Returns `None` if there is
-/// no such strategy or no variant is chosen. The variants' group is the parameter `groupId`, or else the feature's name. The
-/// feature is within its limits. Does not allocate.
+/// Returns the variant that is chosen among those of the strategy at the index `place`, from 0. Returns `None` if there
+/// is no such strategy or no variant is chosen. The group, which is hashed to choose by weight, is the strategy's
+/// parameter `groupId`, or else the feature's name. The feature must be within its limits. Does not allocate.
 #[tactic(auto, unfolding(crate::specs::Evaluation::strategy_variant))]
 pub fn strategy_variant<'a>(
     feature: &'a Feature,
@@ -145,8 +147,8 @@ pub fn strategy_variant<'a>(
     )
 }
 
-/// Returns the variant that is chosen among the feature's own, with the feature's name as the group, if one is chosen. The
-/// feature is within its limits. Does not allocate.
+/// Returns the variant that is chosen among the feature's own, with the feature's name as the group, or `None` if no
+/// variant is chosen. The feature must be within its limits. Does not allocate.
 #[tactic(auto, unfolding(crate::specs::Evaluation::own_variant))]
 pub fn own_variant<'a>(
     feature: &'a Feature,
@@ -167,8 +169,7 @@ pub fn own_variant<'a>(
     )
 }
 
-/// Returns the variant that is chosen for the context: by an override, or by the hash of `group` and the context's id.
-/// For a context without an id, the id is derived from the random number of the feature for the purpose `mark`. That
+/// As `variant_in`, with a random id that is derived from the random number of the feature for the purpose `mark`. That
 /// number is computed only if there are variants.
 #[tactic(auto, unfolding(crate::specs::Evaluation::variant_in, unl_variants::specs::Variant::choice_of))]
 fn variant_drawn<'a>(
@@ -190,8 +191,9 @@ fn variant_drawn<'a>(
     variant_in(group, variants, context, random_id(random))
 }
 
-/// Returns the variant that is chosen for the context: by an override, or by the hash of `group` and the context's id.
-/// For a context without an id, the id is `random`.
+/// Returns the first variant with an override for the context, or else one chosen by weight. Returns `None` if the
+/// weights sum to 0. The choice by weight hashes `group` and the text of the context that the stickiness selects. If
+/// the stickiness selects no text, the id `random` is hashed instead of the text.
 #[tactic(auto, unfolding(crate::specs::Evaluation::variant_in))]
 fn variant_in<'a>(
     group: &str,
