@@ -15,7 +15,7 @@ use Rattle.unl_documents.specs.Reading.{Reading, ◌>>=◌}
 use Rattle.unl_documents.specs.Sorting.{in_order}
 use Rattle.unl_documents.specs.States.{as_is, feed_of, id_key, id_text, meta_of, name_key, no_meta, state_of}
 
--- Readings of one to ten keys in order, combined by `make`.
+-- If one to ten keys are read in order and combined by `make`, the fault is that of the first key that fails.
 keys_1 : {A T : Type 0} (a : Reading A) (make : A → T)
     → fault_of (a >>= λ (xa : A). Ok (make xa)) ≡ first (before a [])
 keys_1 (Ok x) make = refl
@@ -194,7 +194,7 @@ feed_first value =
     state_then value (λ state. meta >>= λ m. Ok (record { epoch = m.epoch; state = state; number = m.number })) (before meta [])
     (λ state. keys_1 meta (λ m. record { epoch = m.epoch; state = state; number = m.number }))
 
--- As above, for a document that isn't nested in another document.
+-- If reading an object fails with its first fault, so does reading a document that isn't nested in another document.
 pub document_first : {T : Type 0} (reads : Data → Reading T) (faults : Data → List BadDocument) (value : Data)
     → fault_of (reads value) ≡ first (faults value) → fault_of (document reads value) ≡ first (faults_of_document faults value)
 document_first reads faults value same = decided (is_object value)

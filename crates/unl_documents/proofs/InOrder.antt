@@ -102,7 +102,7 @@ twice_from_order {T} key spelled field xs e is =
       | None ↦ λ none other. absurd cc
     ] refl is
 
--- A function that sorts the items, or names the least duplicate key, returns `in_order`.
+-- A function that sorts the items, or names the least duplicate key, returns what `in_order` gives, unless it runs out of memory.
 pub gives_order : {T : Type 0} (key : T → List ℕ) (spelled : List ℕ → List ℕ) (field : Field) (xs : List T) (result : Reading (List T)) → IfOk result (IsSorting key xs)
     → IfErr result (λ e. e ≢ Memory → (k : List ℕ) × IsLeastDuplicate k (map key xs) × (e ≡ DuplicateName field (spelled k))) → Gives result (in_order key spelled field xs)
 gives_order key spelled field xs (Ok ys) sorting twice = order_from_sorting key spelled field xs ys sorting

@@ -8,26 +8,26 @@ use Rattle.std.proofs.lemmas.List.Elements.{All-get_or, All-push}
 use Rattle.std.proofs.lemmas.List.Folds.{length-flat_map-take}
 use Rattle.unl_documents.specs.Chunks.{joined, NoneIsEmpty}
 
--- An index within the first list.
+-- At an index within `xs`, the list `xs ++ ys` has the item of `xs`.
 slice_get_prefix : {T : Type 0} (xs ys : List T) (k : ℕ) → k < length xs → slice_get (xs ++ ys) k ≡ slice_get xs k
 slice_get_prefix [] ys k lt = absurd (omega arith)
 slice_get_prefix (x ∷ xs) ys zero lt = refl
 slice_get_prefix (x ∷ xs) ys (suc k) lt = slice_get_prefix xs ys k (omega arith)
 
--- An index past the first list.
+-- At an index past `xs`, the list `xs ++ ys` has an item of `ys`.
 slice_get_behind : {T : Type 0} (xs ys : List T) (k : ℕ) → length xs ≤ k → slice_get (xs ++ ys) k ≡ slice_get ys (k - length xs)
 slice_get_behind [] ys k le = ap (slice_get ys) (omega arith)
 slice_get_behind (x ∷ xs) ys zero le = absurd (omega arith)
 slice_get_behind (x ∷ xs) ys (suc k) le = slice_get_behind xs ys k (omega arith) ∙ ap (slice_get ys) (omega arith)
 
--- An index within the next list.
+-- If an index is within the next list, its item is in that list.
 pub in_current_list : {T : Type 0} (lists : List (List T)) (i : ℕ) (here : List T) (k : ℕ) (total : Option T) → i < length lists → here ≡ get_or lists i here → k < length here
     → slice_get (joined (drop i lists)) k ≡ total → slice_get here k ≡ total
 in_current_list lists i here k total lt is inside so_far =
     let parts : drop i lists ≡ here ∷ drop (i + 1) lists = drop_more lists i here lt ∙ ap (λ list. list ∷ drop (i + 1) lists) (sym is) in
     sym (slice_get_prefix here (joined (drop (i + 1) lists)) k inside) ∙ ap (λ left. slice_get (joined left) k) (sym parts) ∙ so_far
 
--- An index past the next list.
+-- If an index is past the next list, its item is in the lists after that one.
 pub in_later_list : {T : Type 0} (lists : List (List T)) (i : ℕ) (here : List T) (k : ℕ) (total : Option T) → i < length lists → here ≡ get_or lists i here → length here ≤ k
     → slice_get (joined (drop i lists)) k ≡ total → slice_get (joined (drop (i + 1) lists)) (k - length here) ≡ total
 in_later_list lists i here k total lt is past so_far =
@@ -39,11 +39,11 @@ pub flat_map_joined : {T U : Type 0} (f : T → List U) (lists : List (List T)) 
 flat_map_joined f [] = refl
 flat_map_joined f (list ∷ lists) = flat_map-append f list (joined lists) ∙ ap (λ rest. flat_map f list ++ rest) (flat_map_joined f lists)
 
--- Appending one more list.
+-- Appending one more list appends its items.
 pub joined-push : {T : Type 0} (lists : List (List T)) (list : List T) → joined (lists ++ list ∷ []) ≡ joined lists ++ list
 joined-push lists list = flat_map-append (λ l. l) lists (list ∷ []) ∙ ap (λ l. joined lists ++ l) (append-nil list)
 
--- Moving the first of the remaining items into one more list keeps all items.
+-- If the first part of the items that remain becomes one more list, the lists and what then remains still have all items in order.
 pub part_more : {T : Type 0} (lists made : List (List T)) (list part left rest total : List T) → made ≡ lists ++ list ∷ [] → list ≡ part → rest ≡ part ++ left → joined lists ++ rest ≡ total → joined made ++ left ≡ total
 part_more lists made list part left rest total is same parts so_far =
     ap (λ l. joined l ++ left) is ∙ ap (λ l. l ++ left) (joined-push lists list) ∙ append_assoc (joined lists) list left
@@ -69,7 +69,7 @@ maps_next f lists i here made next lt is full same so_far =
     let long : length next ≡ length here = ap length same ∙ length-map here f in
     (map_more f lists i here _ _ lt is refl all, All-push (λ l. 1 ≤ length l) made next so_far.1 (rw long inside))
 
--- What holds for each item of all lists holds for each item of one.
+-- What holds for each item of all lists holds for each item of any one of them.
 pub each_in_list : {T : Type 0} (P : T → Type 0) (lists : List (List T)) (i : ℕ) (here : List T) → i < length lists → here ≡ get_or lists i here → All P (joined lists) → All P here
 each_in_list P lists i here lt is each = λ k d below.
     let inside : k < length (get_or lists i here) = subst (λ l. k < length l) is below in

@@ -5,7 +5,7 @@ use Rattle.std.specs.List.{position_or_len, before_first, after_first, onto_firs
 use Rattle.std.proofs.lemmas.List.Splits.{slice_split_first}
 use Rattle.unl_documents.specs.Texts.{parts}
 
--- The result of `split_once` at a character.
+-- `result` is what `split_once` returns for `text` at the character `byte`.
 abbrev pub CutsAtFirst : ℕ → List ℕ → Option (Bor (List ℕ) × Bor (List ℕ)) → Type 0
 CutsAtFirst byte text result =
     MatchOption result (position_or_len (λ b. b == byte) text ≡ length text)

@@ -18,7 +18,7 @@ faultless : {T : Type 0} (r : Reading T) → fault_of r ≡ None → (x : T) × 
 faultless (Ok x) h = (x, refl)
 faultless (Err e) h = absurd cc
 
--- A sound reading gives a document if and only if the value represents it and has no fault.
+-- A sound reading gives a document if and only if the value represents this document and the value has no fault.
 pub exactly : {T : Type 0} (reads : Data → Reading T) (Reads : Data → T → Type 0) → Sound reads Reads → One Reads → (value : Data) (d : T) (fault : Option BadDocument)
     → fault_of (document reads value) ≡ fault → (document reads value ≡ Ok d) ↔ (Reads value d × (fault ≡ None))
 exactly reads Reads sound one value d fault same = (

@@ -1,4 +1,4 @@
--- Parsing gives the value of a JSON text, and nothing for other bytes.
+-- Parsing gives the value of a JSON text, and `None` for other bytes.
 use Rattle.std.proofs.Common.{◌≡◌, ℕ, List, Some, None, refl, inl, inr}
 use Rattle.std.specs.Prelude.{IsUtf8}
 use Rattle.std.specs.Str.{is_utf8}

@@ -108,7 +108,7 @@ faults_of_feature value =
     before (defaulted [] (objects 100 dependency_of) field.Dependencies value) [])))))))))
 
 -- The faults of the two lists of a state, followed by `others`. A duplicate name or id is the fault of a list only if
--- none of its items has a fault.
+-- reading the list itself doesn't fail.
 abbrev pub faults_of_lists : Data → List BadDocument → List BadDocument
 faults_of_lists value others =
     before (defaulted [] (objects 10000 feature_of) field.Features value >>= in_order name_key as_is field.Name) (
@@ -124,7 +124,7 @@ faults_of_feed value = faults_of_lists value (before (defaulted no_meta (object_
 
 -- ---- the first fault of a whole document
 
--- The faults of a whole document; `NotJson` alone if it isn't an object.
+-- The faults of a value that is read as a whole document; `NotJson` alone if the value isn't an object.
 abbrev pub faults_of_document : (Data → List BadDocument) → Data → List BadDocument
 faults_of_document faults value = if is_object value then faults value else NotJson ∷ []
 

@@ -68,11 +68,12 @@ counts segments strategies = map (λ s. length (all_constraints segments s)) str
 unfoldable pub first_excess : State → Option ℕ
 first_excess state = find (nat_lt 100) (flat_map (λ f. counts state.segments f.strategies) state.features)
 
--- The state, or `TooMany` if `first_excess` found a strategy with too many constraints.
+-- The state, or `TooMany` with the count if `first_excess` found a strategy with too many constraints.
 abbrev pub unless_excess : Option ℕ → State → Result State InlineRefusal
 unless_excess None state = Ok state
 unless_excess (Some count) state = Err (TooMany count)
 
--- The state with its segments inlined, or `TooMany` if a strategy would have more than 100 constraints.
+-- The state with its segments inlined; or, if a strategy would have more than 100 constraints, `TooMany` with the count of the first
+-- such strategy.
 unfoldable pub inlining_of : State → Result State InlineRefusal
 inlining_of state = unless_excess (first_excess state) (inlined state)

@@ -39,7 +39,7 @@ IsTruth value b = value ≡ boolean b
 abbrev pub IsWhole : Data → ℕ → Type 0
 IsWhole value n = value ≡ number (unsigned n)
 
--- The value is this text; or it is an integer or a boolean, and this is its JSON text.
+-- The value is this text; or it is a boolean, or a number that serde_json doesn't read as floating-point, and this is its JSON text.
 abbrev pub IsTextOrWhole : Data → List ℕ → Type 0
 IsTextOrWhole null bytes = ⊥
 IsTextOrWhole (boolean b) bytes = bytes ≡ compact_text (boolean b)
@@ -48,7 +48,7 @@ IsTextOrWhole (string text) bytes = bytes ≡ text
 IsTextOrWhole (array values) bytes = ⊥
 IsTextOrWhole (object inside) bytes = ⊥
 
--- The value is the name of this operator.
+-- The value is a text, and `op` is the operator with this name: `Unknown` for a name that isn't known.
 abbrev pub IsOperator : Data → Operator → Type 0
 IsOperator value op = (name : List ℕ) × IsText value name × (op ≡ operator_of name)
 

@@ -1,21 +1,21 @@
--- Text helpers: trimming, splitting, comma-separated lists and names.
+-- Text helpers: trimming, splitting, comma-separated lists and names. Whitespace is the bytes 9, 10, 12, 13 and 32.
 use Rattle.std.specs.Prelude.{ℕ, ◌-◌, List, length, map, filter, take, drop, Bool, not, nat_lt, nat_le, ◌&&◌, ◌==◌}
 use Rattle.std.specs.Char.{is_ascii_whitespace}
 use Rattle.std.specs.List.{prefix_len, suffix_len, slice_split}
 
--- The text from its first byte that isn't whitespace.
+-- The text from its first byte that isn't whitespace; empty if there is no such byte.
 abbrev pub without_leading_space : List ℕ → List ℕ
 without_leading_space text = drop (prefix_len is_ascii_whitespace text) text
 
--- The text up to its last byte that isn't whitespace.
+-- The text up to its last byte that isn't whitespace; empty if there is no such byte.
 abbrev pub without_trailing_space : List ℕ → List ℕ
 without_trailing_space text = take (length text - suffix_len is_ascii_whitespace text) text
 
--- The text without leading and trailing whitespace: the bytes 9, 10, 12, 13 and 32.
+-- The text without leading and trailing whitespace.
 unfoldable pub trimmed : List ℕ → List ℕ
 trimmed text = without_trailing_space (without_leading_space text)
 
--- The texts before, between and after the occurrences of `mark`.
+-- The texts before, between and after the occurrences of the byte `mark`.
 abbrev pub parts : ℕ → List ℕ → List (List ℕ)
 parts mark text = slice_split (λ byte. byte == mark) text
 

@@ -35,7 +35,7 @@ tokens_at_some field (Some d) = tokens_at field d
 abbrev pub pair_tokens : List Pair → List Token
 pair_tokens pairs = flat_map (λ p. key p.key ∷ string p.value ∷ []) pairs
 
--- A writer went from `old` to `new` by appending the tokens `ts`.
+-- A writer went from `old` to `new` by appending the tokens `ts`. `before`, which its buffer held before any token, is unchanged.
 pub record Wrote (ts : List Token) (old new : Written) : Type 0 where
   pub before : new.before ≡ old.before
   pub tokens : new.tokens ≡ old.tokens ++ ts

@@ -10,7 +10,7 @@ use crate::shared::Shared;
 use std::alloc::Global;
 use std::marker::Model;
 
-/// The maximum number of items in a chunk.
+/// The maximum number of items in a chunk that this module builds.
 const MOST: usize = 128;
 
 /// A chunk: a list of items. The chunk and each of its items are reference-counted.
@@ -55,7 +55,7 @@ impl<T: Drop> ChunkedList<T> {
         })
     }
 
-    /// Returns a list with these chunks, none of which may be empty.
+    /// Returns the list of the items of `chunks`, without copying. No chunk may be empty.
     pub fn from_chunks(chunks: List<Chunk<T>>) -> ChunkedList<T>
         requires { NoneIsEmpty chunks }
         ensures { result ≡ joined chunks }
@@ -63,7 +63,7 @@ impl<T: Drop> ChunkedList<T> {
         ChunkedList { chunks }
     }
 
-    /// Returns the chunks that hold the items.
+    /// Returns the chunks that hold the items, in order. None is empty.
     pub fn chunks(&self) -> &[Chunk<T>]
         ensures items { joined result.now ≡ self.now }
         ensures full { NoneIsEmpty result.now }
@@ -71,7 +71,7 @@ impl<T: Drop> ChunkedList<T> {
         self.chunks.as_slice()
     }
 
-    /// Returns the chunks that hold the items, as an owned list.
+    /// Returns the chunks that hold the items, in order, as an owned list. None is empty.
     pub fn into_chunks(self) -> List<Chunk<T>>
         ensures items { joined result ≡ self }
         ensures full { NoneIsEmpty result }
@@ -83,8 +83,8 @@ impl<T: Drop> ChunkedList<T> {
     ///
     /// # Errors
     ///
-    /// `Memory`: the number doesn't fit into a `usize`. This is possible, since the same chunk can occur more than
-    /// once.
+    /// `Memory`: the number doesn't fit into a `usize`. A list can have that many items, because the same chunk can
+    /// occur in it more than once.
     pub fn len(&self) -> Result<usize, Memory>
         ensures { IfOk result (λ count. count ≡ length self.now) }
     {
@@ -98,15 +98,15 @@ impl<T: Drop> ChunkedList<T> {
         self.chunks.is_empty()
     }
 
-    /// Returns the item at index `place`, counted from 0.
+    /// Returns the item at index `place`, counted from 0, or `None` if there are too few items.
     pub fn get(&self, place: usize) -> Option<&T>
         ensures { option_map (λ x. x.now) result ≡ slice_get self.now place }
     {
         item_at(self.chunks.as_slice(), place)
     }
 
-    /// Returns a list of these items followed by `items`. The result shares the chunks of `self`. Only the last chunk
-    /// is replaced by a new one, if it has room for `items`. The only error is out of memory.
+    /// Returns a list of the items of `self` followed by `items`. The result shares the chunks of `self`, but a new
+    /// chunk replaces the last one if that has room for all of `items`. The only error is out of memory.
     pub fn append(&self, alloc: Global, items: &[Shared<T>]) -> Result<ChunkedList<T>, Memory>
         ensures { IfOk result (λ s. s ≡ self.now ++ items.now) }
     {
@@ -122,8 +122,8 @@ impl<T: Drop> TryClone for ChunkedList<T> {
     }
 }
 
-/// Removes the chunk at index `place` and returns its items. They are copied only if something else also refers to the
-/// chunk. The only error is out of memory.
+/// Removes the chunk at index `place` and returns its items. The references to the items are copied only if something
+/// else also refers to the chunk. The only error is out of memory; the chunk is then removed, too.
 pub fn take_chunk<T: Drop>(
     alloc: Global,
     chunks: &mut List<Chunk<T>>,
@@ -137,7 +137,8 @@ pub fn take_chunk<T: Drop>(
     owned(alloc, chunk)
 }
 
-/// Returns the items of a chunk. They are copied only if something else also refers to the chunk.
+/// Returns the items of a chunk. The references to the items are copied only if something else also refers to the
+/// chunk.
 fn owned<T: Drop>(alloc: Global, chunk: Chunk<T>) -> Result<List<Shared<T>>, Memory>
     ensures { IfOk result (λ list. list ≡ chunk) }
 {
@@ -147,8 +148,8 @@ fn owned<T: Drop>(alloc: Global, chunk: Chunk<T>) -> Result<List<Shared<T>>, Mem
     }
 }
 
-/// Returns the list of `chunks` with `chunk` inserted at index `place`. `chunk` is split if it has more than 128 items
-/// and left out if it is empty. The only error is out of memory.
+/// Returns the list of the items of `chunks`, with `chunk` inserted as the chunk at index `place`. `chunk` is split if
+/// it has more than 128 items and left out if it is empty. The only error is out of memory.
 pub fn with_chunk<T: Drop>(
     alloc: Global,
     mut chunks: List<Chunk<T>>,
@@ -166,7 +167,7 @@ pub fn with_chunk<T: Drop>(
     Ok(ChunkedList { chunks })
 }
 
-/// As [`with_chunk`], but always copies `chunk` into new chunks.
+/// As [`with_chunk`], but copies the references in `chunk` into new chunks, whatever its length.
 fn with_cut<T: Drop>(
     alloc: Global,
     chunks: &[Chunk<T>],
@@ -208,7 +209,7 @@ fn push_owners<T: Drop>(list: &mut List<Shared<T>>, more: &[Shared<T>]) -> Resul
     Ok(())
 }
 
-/// Appends `chunk` to `chunks`. It is split if it has more than 128 items and left out if it is empty.
+/// Appends `chunk` to `chunks`. `chunk` is split if it has more than 128 items and left out if it is empty.
 fn push_chunk<T: Drop>(
     alloc: Global,
     chunks: &mut List<Chunk<T>>,
@@ -224,7 +225,7 @@ fn push_chunk<T: Drop>(
     chunks.push(Shared::new(alloc, chunk)?)
 }
 
-/// Appends `items` as new chunks.
+/// Appends new chunks with another reference to each of `items`.
 fn push_cut<T: Drop>(
     alloc: Global,
     chunks: &mut List<Chunk<T>>,
@@ -252,7 +253,8 @@ fn push_copy<T: Drop>(
     chunks.push(Shared::new(alloc, owners(alloc, part)?)?)
 }
 
-/// Returns the chunk size with which `count` items are split into chunks of about the same length.
+/// Returns a chunk size, from 1 to 128, that splits `count` items into chunks of about the same length. The last chunk
+/// may be shorter.
 fn size_of_chunks(count: usize) -> usize
     ensures { 0 < result }
 {
@@ -269,7 +271,7 @@ fn owners<T: Drop>(alloc: Global, values: &[Shared<T>]) -> Result<List<Shared<T>
     Ok(list)
 }
 
-/// Splits items into chunks.
+/// Returns new chunks with another reference to each of `items`.
 fn cut<T: Drop>(alloc: Global, items: &[Shared<T>]) -> Result<List<Chunk<T>>, Memory>
     ensures items { IfOk result (λ chunks. joined chunks ≡ items.now) }
     ensures full { IfOk result NoneIsEmpty }
@@ -315,7 +317,8 @@ fn with_last<T: Drop>(
     Ok(ChunkedList { chunks: more })
 }
 
-/// Returns the last chunk, if it has room for `count` more items.
+/// Returns the last chunk if `count` is 0 or `count` more items fit into it (at most 128 in all). Returns `None`
+/// otherwise, or if there are no chunks.
 fn last_with_room<T: Drop>(chunks: &[Chunk<T>], count: usize) -> Option<&List<Shared<T>>>
     ensures inside { IfSome result (λ last. 0 < length chunks.now) }
     ensures items { IfSome result (λ last. joined (take (length chunks.now - 1) chunks.now) ++ last.now ≡ joined chunks.now) }
@@ -367,7 +370,7 @@ pub fn checked_sum(count: usize, more: usize) -> Result<usize, Memory>
     count.checked_add(more).ok_or(Memory)
 }
 
-/// Returns the item at index `place` of all chunks together.
+/// Returns the item at index `place` of all chunks together, or `None` if they have too few items.
 fn item_at<T: Drop>(chunks: &[Chunk<T>], place: usize) -> Option<&T>
     ensures { option_map (λ x. x.now) result ≡ slice_get (joined chunks.now) place }
 {

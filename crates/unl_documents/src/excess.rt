@@ -1,4 +1,4 @@
-//! Counting the constraints that strategies would have after their segments are inlined.
+//! Counting the constraints that strategies would have after inlining, which adds the constraints of their segments.
 ghost use Rattle.std.specs.Prelude.{◌≡◌, ◌+◌, IfOk, flat_map, length, nat_lt};
 ghost use Rattle.std.specs.List.{find};
 ghost use Rattle.unl_documents.specs.Inline.{all_constraints, constraints_for, counts, first_excess as first_excess_of};
@@ -14,8 +14,9 @@ use crate::shared::Shared;
 use crate::state::State;
 use crate::strategy::Strategy;
 
-/// Finds the first strategy that would have more than 100 constraints and returns its number of constraints. Builds no
-/// constraint lists. The only error, `Memory`, means that a count doesn't fit into 64 bits.
+/// Returns the number of constraints of the first strategy, in the order of features and strategies, that would have
+/// more than 100, or `None` if there is no such strategy. Doesn't allocate. The only error, `Memory`, means that a
+/// count doesn't fit into 64 bits.
 #[tactic(auto, unfolding(crate::specs::Inline::first_excess))]
 pub(crate) fn first_excess(state: &State) -> Result<Option<u64>, Memory>
     ensures { IfOk result (λ found. found ≡ first_excess_of state.now) }
@@ -70,8 +71,8 @@ fn excess_among(
     Ok(None)
 }
 
-/// Returns the number of constraints that a strategy would have. The only error, `Memory`, means that the number
-/// doesn't fit into 64 bits.
+/// Returns the number of constraints that a strategy would have after inlining. The only error, `Memory`, means that
+/// the number doesn't fit into 64 bits.
 #[tactic(auto, unfolding(crate::specs::Inline::all_constraints))]
 fn count_of(strategy: &Strategy, segments: &List<Shared<Segment>>) -> Result<u64, Memory>
     ensures { IfOk result (λ count. count ≡ length (all_constraints segments.now strategy.now)) }

@@ -1,4 +1,4 @@
-//! The text that reports a [`BadDocument`].
+//! `fault_text`: the text that reports a [`BadDocument`].
 ghost use Rattle.std.specs.Prelude.{◌≡◌, ◌++◌, IfOk, string_bytes, codes, decimal};
 ghost use Rattle.serde_json.specs.Data.{string};
 ghost use Rattle.serde_json.specs.Written.{compact_text};
@@ -12,9 +12,9 @@ use crate::text::Text;
 use serde_json::Value;
 use std::alloc::Global;
 
-/// Returns the text of a fault. It begins with the name of the fault's variant. Every variant with a key adds the key.
-/// `TooLarge` then adds its number, and `DuplicateName` the duplicate name as a JSON string. The parts are separated by
-/// spaces. Returns an empty text for `Memory`. The format is chosen by this project. The only error is out of memory.
+/// Returns the text of a fault, which is empty for `Memory`. For other faults, the text is the name of the variant, the
+/// key if there is one, and then the number of `TooLarge`, or the name or id of `DuplicateName` as a JSON string. The
+/// parts are separated by spaces. The format is chosen by this project. The only error is out of memory.
 #[tactic(auto, unfolding(crate::specs::FaultText::fault_text))]
 pub fn fault_text(alloc: Global, fault: &BadDocument) -> Result<String, Memory>
     ensures { IfOk result (λ s. string_bytes s ≡ fault_text fault.now) }

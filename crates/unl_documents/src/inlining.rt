@@ -1,5 +1,5 @@
-//! Inlining segments: strategies get copies of the constraints of the segments that they refer to. This is for clients
-//! that don't support segments.
+//! Inlining segments: strategies get copies of the constraints of the segments that they refer to. Clients that
+//! don't support segments get states with inlined segments.
 ghost use Rattle.std.specs.Prelude.{◌≡◌, ◌==◌, ◌++◌, IfOk, OnOk, length, map};
 ghost use Rattle.std.specs.List.{list_all};
 ghost use Rattle.unl_documents.specs.Inline.{all_constraints as constraints_of, constraints_for, holds_for_nobody as nobody_meets};
@@ -30,10 +30,10 @@ use thiserror::Error;
 /// Why the segments of a state couldn't be inlined.
 #[derive(Clone, Copy, Debug, Error)]
 pub enum InlineRefusal {
-    /// A strategy would have more than 100 constraints; the field is their number.
+    /// A strategy would have more than 100 constraints; the field is the number that it would have.
     #[error("a strategy would have {0} constraints")]
     TooMany(u64),
-    /// Out of memory.
+    /// Out of memory, or a count doesn't fit into 64 bits.
     #[error("out of memory")]
     Memory,
 }
@@ -187,7 +187,8 @@ fn all_constraints(
     Ok(constraints)
 }
 
-/// Appends the constraints inlined for a segment id.
+/// Appends the constraints inlined for a segment id: those of the segment, or [`holds_for_nobody`] if there is no such
+/// segment.
 #[tactic(auto, unfolding(crate::specs::Inline::constraints_for))]
 fn push_for(
     alloc: Global,

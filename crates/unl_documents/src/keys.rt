@@ -12,7 +12,7 @@ use crate::text::Text;
 use serde_json::Value;
 use std::alloc::Global;
 
-/// Returns the value at a key. Returns `None` if the key is absent or null.
+/// Returns the value at a key, or `None` if the key is absent or null, or if `value` isn't an object.
 #[tactic(auto, unfolding(crate::specs::Kinds::at))]
 pub fn value_at(field: Field, value: &Value) -> Option<&Value>
     ensures { option_map (λ found. view found.now) result ≡ at field (view value.now) }
@@ -57,7 +57,7 @@ pub fn optional<K: Kind>(
     }
 }
 
-/// Reads the value at an optional key. Returns the default if the key is absent or null.
+/// Reads the value at an optional key. Returns `default`, which must be valid for `K`, if the key is absent or null.
 ///
 /// # Errors
 /// The errors of `K::read`.
@@ -78,7 +78,7 @@ pub fn defaulted<K: Kind>(
     }
 }
 
-/// Reads the name at an optional key. Returns the default name if the key is absent or null.
+/// Reads the name at an optional key. Returns a copy of `default`, which must be a name, if the key is absent or null.
 ///
 /// # Errors
 /// `WrongKind` if the value isn't a string, `Missing` if the string is empty, `TooLarge` if it has more than 255 bytes,

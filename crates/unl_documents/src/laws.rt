@@ -1,5 +1,5 @@
-//! Theorems about reading and writing documents. Each function here has an empty body; its `ensures` clauses are the
-//! theorem.
+//! Theorems about reading, sorting and writing documents. Each function here has an empty body; its `ensures`
+//! clauses are the theorem.
 ghost use Rattle.std.specs.Prelude.{◌≡◌, ◌↔◌, ◌≤◌, ℕ, List, Ok, Err, Some, None, length, map};
 ghost use Rattle.serde_json.specs.Data.{Data};
 ghost use Rattle.unl_documents.specs.declared.fault.BadDocument.{BadDocument};
@@ -24,7 +24,8 @@ ghost use Rattle.unl_documents.specs.Valid.{IsValidFeature, IsValidSegment};
 ghost use Rattle.unl_documents.specs.Writing.{feature_data, segment_data, feed_data};
 
 /// A value is read as a feature if and only if it represents that feature, key by key, and has no fault. Otherwise
-/// reading fails with the first fault of its keys, in the order in which they are read.
+/// reading fails with `NotJson` if the value isn't an object, or else with the first fault of its keys, in the order in
+/// which they are read.
 pub fn features_are_read()
     ensures read { (value : Data) (f : Feature)
         → (document feature_of value ≡ Ok f) ↔ (ReadsFeature value f × (first_fault_of_feature value ≡ None)) }
@@ -71,8 +72,9 @@ pub fn what_is_written_is_read()
         → document feed_of (feed_data head s) ≡ Ok (record { epoch = head.epoch; state = s; number = Some head.number }) }
 {}
 
-/// `in_order` returns the list sorted by key, with strictly increasing keys. If a key occurs twice, there is no such
-/// list, and `in_order` returns `DuplicateName` with the least key that occurs twice.
+/// `in_order`, by which features and segments are sorted, gives the list sorted by key, with strictly increasing keys.
+/// If a key occurs twice, there is no such list, and `in_order` gives `DuplicateName` with the least key that occurs
+/// twice.
 pub fn order_is_the_sorting<T>()
     ensures sorting { (key : T → List ℕ) (spelled : List ℕ → List ℕ) (field : Field) (xs ys : List T)
         → (in_order key spelled field xs ≡ Ok ys) ↔ IsSorting key xs ys }

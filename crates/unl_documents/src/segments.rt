@@ -1,4 +1,4 @@
-//! Finding the segments that strategies refer to.
+//! `segment_of`: finding the segment that a strategy refers to by its id.
 ghost use Rattle.std.specs.Prelude.{◌≡◌, option_map};
 ghost use Rattle.unl_documents.specs.Inline.{segment_with};
 

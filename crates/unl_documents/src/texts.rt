@@ -7,7 +7,8 @@ use crate::memory::Memory;
 use crate::text::Text;
 use std::alloc::Global;
 
-/// Returns the text without leading and trailing whitespace: the bytes 9, 10, 12, 13 and 32 (chosen by this project).
+/// Returns the text without leading and trailing whitespace: the bytes 9, 10, 12, 13 and 32 (a set chosen by this
+/// project).
 pub fn trimmed(text: &str) -> &str
     ensures { result.now ≡ trimmed text.now }
 {
@@ -21,15 +22,15 @@ pub fn trimmed_bytes(bytes: &[u8]) -> &[u8]
     bytes.trim_ascii()
 }
 
-/// Returns whether the text is a name: it has 1 to 255 bytes (chosen by this project).
+/// Returns whether the text is a name: it has 1 to 255 bytes (limits chosen by this project).
 pub fn is_name(text: &str) -> bool
     ensures { result ≡ is_name text.now }
 {
     !text.is_empty() && text.len() <= 255
 }
 
-/// Returns the texts before and after the first `mark`, an ASCII character. Returns `None` if the text doesn't contain
-/// `mark`.
+/// Returns the texts before and after the first `mark`, which must be an ASCII character. Returns `None` if the text
+/// doesn't contain `mark`.
 pub fn cut(text: &str, mark: char) -> Option<(&str, &str)>
     requires { mark < 128 }
     ensures parts { IfSome result (λ sides. parts mark text.now ≡ sides.0.now ∷ parts mark sides.1.now) }
@@ -39,8 +40,8 @@ pub fn cut(text: &str, mark: char) -> Option<(&str, &str)>
     text.split_once(mark)
 }
 
-/// Returns the items of a comma-separated list: its parts, trimmed, without the empty ones (chosen by this
-/// project). The only error is out of memory.
+/// Returns the items of a comma-separated list: the parts between commas, each [`trimmed`], without the empty ones (a
+/// rule chosen by this project). The only error is out of memory.
 #[tactic(auto, unfolding(crate::specs::Texts::comma_items))]
 pub fn comma_items(alloc: Global, text: &str) -> Result<List<Text>, Memory>
     ensures { IfOk result (λ items. items ≡ comma_items text.now) }
@@ -55,7 +56,7 @@ pub fn comma_items(alloc: Global, text: &str) -> Result<List<Text>, Memory>
     Ok(items)
 }
 
-/// Appends the trimmed part, unless it is empty.
+/// Appends `part` trimmed, unless it is then empty.
 fn push_item(alloc: Global, items: &mut List<Text>, part: &str) -> Result<(), Memory>
     ensures { OnOk result (items.new ≡ items.old ++ items_among (part.now ∷ [])) }
 {

@@ -1,4 +1,4 @@
-//! Converting documents to JSON values. The only error of the functions here is out of memory.
+//! `ToValue`: converting documents to JSON values. The only error of the functions here is out of memory.
 ghost use Rattle.std.specs.Prelude.{◌≡◌, ◌++◌, IfOk, OnOk, map, option_map};
 ghost use Rattle.serde_json.specs.Data.{Data};
 ghost use Rattle.serde_json.specs.View.{view, members_view};
@@ -138,7 +138,7 @@ pub fn put_value(
     Ok(())
 }
 
-/// As [`put`], if there is a value. Otherwise leaves `members` unchanged.
+/// As [`put`] with the value in `found`. Leaves `members` unchanged if `found` is `None`.
 pub fn put_some<W: ToValue>(
     members: &mut Map<String, Value>,
     alloc: Global,
@@ -154,7 +154,7 @@ pub fn put_some<W: ToValue>(
     Ok(())
 }
 
-/// As [`put`], if the number is not 0. Otherwise leaves `members` unchanged.
+/// As [`put`] with `number`. Leaves `members` unchanged if `number` is 0.
 pub fn put_unless_zero(
     members: &mut Map<String, Value>,
     alloc: Global,

@@ -1,7 +1,7 @@
-//! Writing documents as JSON text, token by token.
+//! `WriteJson`: writing documents as JSON text, token by token.
 //!
-//! The functions here append to the writer's output. Their only error is out of memory, after which a part of the
-//! tokens may have been written.
+//! The functions that take a writer append to its output. The only error of all functions here is out of memory, after
+//! which a part of the tokens may have been written.
 ghost use Rattle.std.specs.Prelude.{◌≡◌, ◌∷◌, [], Some, All, IfOk, OnOk, map, option_map};
 ghost use Rattle.json.specs.Token.{key};
 ghost use Rattle.serde_json.specs.Written.{compact_text};
@@ -24,7 +24,7 @@ use std::alloc::Global;
 /// The initial capacity of an output buffer, in bytes.
 pub(crate) const ROOM: usize = 128;
 
-/// A type that can be written as JSON text. The text is that of the value returned by [`ToValue::write`].
+/// A type that can be written as JSON text: the text of the JSON value that [`ToValue::write`] returns.
 pub trait WriteJson: ToValue {
     // The condition for writing `self`: for example, the parameters of a strategy must be sorted by key, because the
     // keys of an object are sorted in its JSON text.
@@ -165,7 +165,7 @@ pub fn print_unless_zero(out: &mut Writer, field: Field, number: u64) -> Result<
     print_some(out, field, &unless_zero(number))
 }
 
-/// Returns the JSON text of a value, without whitespace between tokens.
+/// Returns the JSON text of `value`, without whitespace between tokens.
 pub fn text_of<P: WriteJson>(alloc: Global, value: &P) -> Result<List<u8>, Memory>
     requires { P.is_printable value.now }
     ensures { IfOk result (λ text. text ≡ compact_text (P.written value.now)) }
