@@ -36,7 +36,7 @@ closed initial port (Ok served) (Err Memory) last before after ends is = inr (se
 closed initial port (Err fault) result last before after ends is =
     subst (λ (r : Result ℕ ProgramFault). ServesAndCloses initial port r before after) (sym is) (failed initial port fault last before after ends)
 
--- as above, from a keeper that was not opened yet
+-- as `closed`, from serving with a keeper that equals `unopened`
 pub serves_and_closes : (initial : UpstreamState) (port : ℕ) (keeper : KeeperState) (served result : Result ℕ ProgramFault)
     (before after : Facing) → keeper ≡ unopened → ((last : KeptState) × ReopeningEnds (kept_state initial keeper) port served last before after)
     → IsClosedWith served result → ServesAndCloses initial port result before after
@@ -57,7 +57,7 @@ closed_at initial port (Err fault) before after ends = tt
 
 -- ---- the program
 
--- the arguments were read, and the file was served with a new door
+-- how the program ends if the arguments were read and the file was served with a new door
 pub reads_and_runs : (words : List (List ℕ)) (result : Result ℕ ProgramFault) (arguments : ProgramArguments) (before after : Facing)
     → RunsFile arguments.options result before after → IsReading words (Ok arguments) → IsNewDoor before.door → ProgramEnds result
 reads_and_runs words result arguments before after runs reads is_new = (

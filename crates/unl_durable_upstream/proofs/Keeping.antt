@@ -49,7 +49,7 @@ attempts_of opened last port (Ok served) before after has ends = ends.0.carries
 attempts_of opened last port (Err failed) before after has (inl same) = subst (AttemptsPreserve opened) (sym same.0) (holds_still opened has)
 attempts_of opened last port (Err failed) before after has (inr ends) = ends.1.carries
 
--- the kept commands after these attempts, for an upstream that was reopened before them
+-- the kept commands of an upstream that was reopened, after attempts to keep further commands
 keeps_acknowledged : (start opened last : KeptState) (command_count : ℕ) → Reopened start command_count opened
     → AttemptsPreserve opened last → KeepsAcknowledged start.up opened last
 keeps_acknowledged start opened last command_count opens all =
@@ -67,7 +67,7 @@ keeps_acknowledged start opened last command_count opens all =
       faults = all.carries.faults;
     }
 
--- an upstream that was reopened and then served links
+-- `OpensAndServes`, for an upstream that was reopened and then served links
 pub opens_and_serves : (start opened last : KeptState) (port command_count : ℕ) (ended : Result ℕ Failed) (before after : Facing)
     → HasKept opened.keeper → IsSameKeeper start.keeper opened.keeper → Reopened start command_count opened
     → LinksEnd opened port ended last before after → OpensAndServes start port ended last before after

@@ -30,7 +30,7 @@ ServesDatabase initial port result before after =
     (last : KeptState) × ReopeningEnds (kept_state initial unopened) port result last before after
 
 -- The database was served and, if serving succeeded, closed. `File`: serving succeeded, but closing the database failed. `Memory`:
--- memory ran out, and the door did not listen or hand out a link; or serving succeeded, and memory ran out while closing the
+-- memory ran out before the door listened or handed out a link; or serving succeeded, and memory ran out while closing the
 -- database. `Row`, `Keeper` and `Door` are errors of serving. `BadArguments` is never the result.
 abbrev pub ServesAndCloses : UpstreamState → ℕ → Result ℕ ProgramFault → Facing → Facing → Type 0
 ServesAndCloses initial port (Ok served) before after = ServesDatabase initial port (Ok served) before after

@@ -35,12 +35,13 @@ impl ProgramArguments {
     }
 }
 
-/// Reads the path of the database file and the options of `upstream` from the arguments: those of the command line, then
-/// the lines of the file that the environment variable `UNL_EDGE_WORDS_FILE` names. [`read_words`] describes the options.
+/// Reads the path of the database file and the options of `upstream` from the arguments: those of the command line,
+/// then the non-empty lines of the file that the environment variable `UNL_EDGE_WORDS_FILE` names, if it is set.
+/// [`read_words`] describes the options.
 ///
 /// # Errors
-/// `BadArguments`: there are no arguments; an argument, or the path or content of the file of arguments, isn't UTF-8; that
-/// file can't be read; or the arguments after the path of the database file are not valid options of `upstream`.
+/// `BadArguments`: there are no arguments; an argument, or the path or content of the file of arguments, isn't UTF-8;
+/// that file can't be read; or the arguments after the path of the database file are not valid options of `upstream`.
 /// `Memory`: out of memory.
 pub fn read_program_arguments(rt: &HostRuntime) -> Result<ProgramArguments, ProgramFault>
     ensures reads { (words : List (List ℕ)) × IsReading words result }
@@ -56,8 +57,8 @@ pub fn read_program_arguments(rt: &HostRuntime) -> Result<ProgramArguments, Prog
 /// Takes the first argument as the path, puts the command name `upstream` in its place, and then reads the options.
 ///
 /// # Errors
-/// `BadArguments`: there are no arguments, or those after the path are not valid options of `upstream`. `Memory`: out of
-/// memory.
+/// `BadArguments`: there are no arguments, or those after the path are not valid options of `upstream`. `Memory`: out
+/// of memory.
 fn read_path_first(alloc: Global, mut words: Vec<String>) -> Result<ProgramArguments, ProgramFault>
     ensures reads { IsReading (map string_bytes words.items) result }
     ensures valid { IfOk result (λ arguments. IsUpstream arguments.options) }

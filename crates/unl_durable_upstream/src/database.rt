@@ -36,9 +36,9 @@ fn disconnect<F: Disk + Drop>(connection: Connection<FileStore<F>>) -> Result<()
     connection.close()
 }
 
-/// Opens the database file at the path in the arguments, and serves it as [`serve_over`] does. `system` opens the file and
-/// allocates memory; `rt` waits and reports. If the database can't be opened or read, the reason is reported on the error
-/// stream of `rt`.
+/// Opens the database file at the path in the arguments, and serves it as [`serve_over`] does. `system` opens the file
+/// and allocates memory; `rt` waits and reports. If the database can't be opened or read, the reason is reported on the
+/// error stream of `rt`.
 ///
 /// # Errors
 /// `File`: the database could not be opened or closed. `Memory`: out of memory while the database was opened, or as for
@@ -78,8 +78,9 @@ fn report_keeper<E: Eprint>(rt: &E, path: &str, ended: &Result<u64, ProgramFault
 
 /// Reopens an upstream from a database, listens on the port in the arguments, and serves the links of the door until
 /// the door is closed. Each command is in the database before it is acknowledged. If serving succeeded, the database is
-/// closed, which moves the content of its write-ahead log to the file. Returns how many links were served. The random word of
-/// the first draw is used as the boot number of the upstream, which distinguishes this run of the program from others.
+/// closed, which moves the content of its write-ahead log to the file. Returns how many links were served. The random
+/// word of the first draw is used as the boot number of the upstream, which distinguishes this run of the program from
+/// others.
 ///
 /// # Errors
 /// `Row`: a row of the database is missing, holds no command, or its command is refused. `Keeper`: the keeper, which
@@ -129,8 +130,8 @@ fn serve_database<F: Disk + Drop, D: Door, R: Draws, W: Wait + Eprint>(
 }
 
 /// Reopens an upstream from a keeper, and serves the links of the door. Reports on the error stream when puts to the
-/// keeper begin to fail, and when they work again. Returns the result of serving, and
-/// the keeper.
+/// keeper begin to fail other than by running out of memory, and when one succeeds again. Returns the result of
+/// serving, and the keeper.
 fn serve_keeper<K: Keeper + Drop, D: Door, R: Draws, W: Wait + Eprint>(
     rt: &W,
     alloc: Global,

@@ -11,8 +11,8 @@ use thiserror::Error;
 /// Why the program failed.
 #[derive(Debug, Drop, Error)]
 pub enum ProgramFault {
-    /// The arguments can't be read or aren't UTF-8, there is no path, or the arguments after the path are not valid options
-    /// of `upstream`.
+    /// The arguments can't be read or aren't UTF-8, there is no path, or the arguments after the path are not valid
+    /// options of `upstream`.
     #[error("unl_durable_upstream: bad words")]
     BadArguments,
     /// The database could not be opened or closed.

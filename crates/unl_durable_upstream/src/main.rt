@@ -1,5 +1,5 @@
-//! The program: an upstream that stores its commands in a database file, so that it still has them after being killed and
-//! restarted.
+//! The program: an upstream that stores its commands in a database file, so that it still has them after being killed
+//! and restarted.
 #![tactic(auto)]
 
 ghost use Rattle.std.specs.Prelude.{◌≡◌};
@@ -32,7 +32,7 @@ fn main(rt: HostRuntime) -> ExitCode {
 }
 
 /// Reads the arguments, warns if the database file that they name is newer than the epoch, and serves an upstream over
-/// this file. Connections are accepted by a door, and the serving ends when the door closes. Files are opened with
+/// this file. Connections are accepted by a door, and serving ends when the door closes. Files are opened with
 /// `system`, sockets with `rt`. Returns how many links were served.
 ///
 /// # Errors
@@ -70,8 +70,8 @@ fn print_end(rt: &HostRuntime, ended: &Result<u64, ProgramFault>) -> bool {
     printed.is_ok()
 }
 
-/// Returns the exit code of the program: the code of the error, if there was one. On success the exit code is 0, or 5 if
-/// the number of served links could not be printed.
+/// Returns the exit code of the program: the code of the error, if there was one. On success the exit code is 0, or 5
+/// if the number of served links could not be printed.
 fn exit_code(ended: &Result<u64, ProgramFault>, is_printed: bool) -> u8
     ensures { result ≡ exit_code_of ended.now is_printed }
 {

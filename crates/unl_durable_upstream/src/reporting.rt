@@ -7,8 +7,8 @@ use unl_keeper::{KeepRefusal, Keeper};
 use unl_net::Log;
 
 /// Forwards each call to a keeper. Reports on the error stream when puts begin to fail with `Fault`, and when a put
-/// succeeds again after that. A put that runs out of memory says nothing of the database, so nothing is reported for it.
-/// A line that can't be written at once is dropped.
+/// succeeds again after that. A put that runs out of memory says nothing of the database, so nothing is reported for
+/// it. A line that can't be written at once is dropped.
 #[derive(Drop)]
 pub struct ReportingKeeper<'a, K: Keeper + Drop, E: Eprint> {
     keeper: K,
@@ -19,7 +19,8 @@ pub struct ReportingKeeper<'a, K: Keeper + Drop, E: Eprint> {
 }
 
 impl<'a, K: Keeper + Drop, E: Eprint> ReportingKeeper<'a, K, E> {
-    /// Forwards to `keeper`, and reports on the error stream of `rt`. A report begins with the path of the database's file.
+    /// Creates a keeper that forwards to `keeper`, and reports on the error stream of `rt`. A report begins with
+    /// `path`, that of the database file.
     pub fn new(rt: &'a E, path: &'a str, keeper: K) -> Self
         ensures { result.keeper ≡ keeper }
     {
@@ -59,8 +60,8 @@ impl<'a, K: Keeper + Drop, E: Eprint> ReportingKeeper<'a, K, E> {
     }
 }
 
-/// Returns whether a put shows that the database fails (`Some(true)`) or works (`Some(false)`). If memory ran out it shows
-/// neither.
+/// Returns whether a put shows that the database fails (`Some(true)`) or works (`Some(false)`). A put that ran out of
+/// memory shows neither (`None`).
 fn shows_failure(put: &Result<(), KeepRefusal>) -> Option<bool> {
     match put {
         Ok(()) => Some(false),

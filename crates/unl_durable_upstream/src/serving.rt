@@ -80,8 +80,8 @@ pub fn serve_reopened<K: Keeper, D: Door, R: Draws, W: Wait + Eprint>(
     }
 }
 
-/// Listens on a port, serves the links of the door one after another until the door is closed, and returns how many were
-/// served. The keeper must be open.
+/// Listens on a port, serves the links of the door one after another until the door is closed, and returns how many
+/// were served. The keeper must be open.
 ///
 /// # Errors
 /// `Failed`: the door could not listen on the port, or could not hand out a link, and incremented its fault count.
