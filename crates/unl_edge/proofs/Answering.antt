@@ -44,7 +44,7 @@ answered_known board_at count before after (q ∷ requests) text known (reply, m
     (All-push (IsKnown board_at) before.ones step.one known (step.board, step.known)))
     rest
 
--- a request that is not answered adds none
+-- a request that is not answered adds no note
 nothing_noted : (reached after : Noted) (end : End)
     → (after ≡ reached) ⊎ ((end ≡ Memory) × (request : Request) × NotesNothing reached request after) → after ≡ reached
 nothing_noted reached after end (inl same) = same
@@ -59,7 +59,7 @@ all_known board_at before after end count known reached =
 
 -- ---- a reader that began with installs
 
--- The reader began with these installs, and has only looked since. It answers at no smaller front.
+-- The reader began with these installs, and has only looked since. It answers from no board at a smaller front.
 pub record Began (edition : Option BoardAt) (installs : List Install) (reader : EdgeReader) : Type 0 where
   pub first : EdgeReader
   pub begins : StartsReader edition installs first
@@ -75,12 +75,12 @@ began known reader learned = record {
   least = omega (arith, learned.least, le-max_left (learned_front_of reader) (front_seen (seen_by reader)));
 }
 
--- what such a reader knows
+-- each board that such a reader answers from is after a list that starts with these installs
 pub known_after : (edition : Option BoardAt) (installs : List Install) (reader : EdgeReader) → Began edition installs reader
     → AnswersAfter edition installs reader
 known_after edition installs reader h = answers_after edition installs h.first reader h.begins h.continues
 
--- Each note at such a front is over the opening board after a list that starts with these installs.
+-- If the fronts of the notes start at `length installs` or above, each note is of a board after a list that starts with these installs.
 notes_after : (edition : Option BoardAt) (installs : List Install) (reader : EdgeReader) (first last : ℕ) (ones : List ServedOne)
     → AnswersAfter edition installs reader → length installs ≤ first → FrontsRise first ones last
     → All (IsKnown (board_of (seen_by reader))) ones → All (NotedAfter edition installs reader) ones

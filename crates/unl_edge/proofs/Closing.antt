@@ -36,7 +36,7 @@ once_err (Err d) e is x = x
 
 -- ---- the links
 
--- links that a door handed out after it listened
+-- the links that a door handed out after it began to listen are those of the scene
 pub hands_links : (served port : ℕ) (could : Bool) (before after : Scene) (door : DoorState) → door ≡ listening_at port could before.door.state
     → HandsOut served door after.door.state → after.input.left ≡ before.input.left → HandsLinks served before after
 hands_links served port could before after door listens hands unread = record {
@@ -120,7 +120,7 @@ edge_runs words end before after draw coming taken ends = by_end end ends
     by_end DoorFault ends = runs DoorFault ends
     by_end OutOfMemory ends = inr (runs OutOfMemory ends)
 
--- the same, with the state before and the edge service known by their parts
+-- as `edge_runs`, with equations for the scene after the draw and for the parts of the edge service
 pub begun_ends : (words : EdgeArguments) (duty : Duty) (board : Board) (end : ServingEnd) (before middle after : Scene)
     (draw : Draw) (coming : Coming) → duty ≡ duty_of words → board ≡ begun_board draw.word words.host words.upstream_tokens
     → before ≡ middle → TakesDraw middle.draws draw coming
@@ -144,7 +144,7 @@ closed_ends service port served before middle after same hands serves sent close
     ends : EdgeEnds service port Closed middle after
     ends = (served, hands, serves, sent, closed)
 
--- the door was closed, and a prefix of the line was sent
+-- the door was closed, and a prefix of the last line was sent
 pub broken_ends : (service : EdgeService) (port served : ℕ) (before middle after : Scene) → before ≡ middle → HandsLinks served middle after
     → IsServed service port served middle after → SendsPrefix middle.output.sent (connections_line served) after.output.sent
     → IsClosedAt port middle.door.state after.door.state → EdgeEnds service port WriteFault before after
@@ -182,7 +182,7 @@ pub stopped_at_line : (service : EdgeService) (port served : ℕ) (before middle
 stopped_at_line service port served before middle after same hands serves silent closed =
     subst (λ (scene : Scene). EdgeEnds service port OutOfMemory scene after) (sym same) (inr (served, hands, serves, silent, closed))
 
--- the same, from the result of printing the line
+-- how an edge ends after its door was closed, from the result of printing the last line
 pub printed_ends : (service : EdgeService) (port served : ℕ) (printed : Result Unit WriteLineFault) (end : ServingEnd) (before middle after : Scene)
     → end ≡ line_end printed → before ≡ middle → HandsLinks served middle after → IsServed service port served middle after
     → WritesLine printed (connections_line served) middle.output.sent after.output.sent → IsClosedAt port middle.door.state after.door.state

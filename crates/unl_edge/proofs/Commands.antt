@@ -90,7 +90,7 @@ environments_are_different environments are =
 
 -- ---- what determines the exit code
 
--- the status if a line is refused
+-- if a line is refused, the status is `Refused`
 pub refused_is : (ending : Ending) → IsRefused ending → ending_status ending ≡ status.Refused
 refused_is done is = absurd is
 refused_is (refused k cause) is = refl
@@ -152,7 +152,7 @@ by_row start made place held left is_new_keeper refuses = (inl (place, refuses, 
     by_held None empty = tt
     by_held (Some rows) empty = absurd (no_row start made place empty refuses)
 
--- the exit code of an upstream with a keeper
+-- the lines and the keeper's rows determine the exit code of an upstream whose keeper was created
 kept_decided : {Read Write Door Keep : Type 0} (start : UpstreamState) (port : ℕ) (made last : KeeperState) (end : UpstreamEnd) (held : Option (List (List ℕ)))
     (left left_after : Option (List ℕ)) (before after : UpstreamFacing) → IsNewKeeper held made → KeeperEnd (kept_state start made) port end last left left_after before after
     → Caused (upstream_status end) Read Write Door Keep → ¬ Read → ¬ Write → ¬ Door → ¬ Keep → code_of (upstream_status end) ≢ 6

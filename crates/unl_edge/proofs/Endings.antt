@@ -63,7 +63,7 @@ at_memory (Ok (Load seed count)) scene = record { end = Err load.Memory; is = re
 at_memory (Err Bad) scene = record { end = words.OutOfMemory; is = refl; ends = refl }
 at_memory (Err Memory) scene = refl
 
--- what holds for the arguments as they were read holds for the arguments
+-- what holds for the arguments as the code read them (`given`) holds for them as the definitions read them (`reading`)
 pub ends_by : (given reading : WordsReading) (status : Status) (before after : Scene)
     → Gives Memory given reading → Ends given status before after → LeavesAlone given before after → Ends reading status before after
 ends_by (Ok x) reading status before after gives ends leaves = subst (λ w. Ends w status before after) (sym gives) ends
@@ -73,7 +73,7 @@ ends_by (Err Memory) reading status before after gives ends leaves =
     subst (λ (scene : Scene). Ends reading status before scene) (sym leaves)
     (subst (λ (s : Status). Ends reading s before before) (sym ends) (at_memory reading before))
 
--- nothing changed
+-- a run in which nothing changed leaves all endpoints alone
 unchanged : (reading : WordsReading) (scene : Scene) → LeavesAlone reading scene scene
 unchanged (Ok Replay) scene = refl
 unchanged (Ok (Check now word)) scene = refl
@@ -85,7 +85,7 @@ unchanged (Ok (Load seed count)) scene = refl
 unchanged (Err Bad) scene = refl
 unchanged (Err Memory) scene = refl
 
--- what the arguments as they were read leave unchanged, the arguments leave unchanged
+-- the same for the endpoints that are left unchanged
 pub leaves_by : (given reading : WordsReading) (before after : Scene)
     → Gives Memory given reading → LeavesAlone given before after → LeavesAlone reading before after
 leaves_by (Ok x) reading before after gives leaves = subst (λ w. LeavesAlone w before after) (sym gives) leaves
@@ -197,14 +197,14 @@ explain_decided Read Write Door Keep (Err explain.ReadFault) left left_after old
 explain_decided Read Write Door Keep (Err explain.WriteFault) left left_after old new ends caused read write memory = absurd (write caused)
 explain_decided Read Write Door Keep (Err explain.Memory) left left_after old new ends caused read write memory = absurd (memory refl)
 
--- bad arguments determine the exit code alone
+-- bad arguments end with status 2 unless something failed
 bad_decided : (Read Write Door Keep : Type 0) (end : ArgumentsEnd) → Caused (arguments_status end) Read Write Door Keep → ¬ Write → code_of (arguments_status end) ≢ 6
     → code_of (arguments_status end) ≡ 2
 bad_decided Read Write Door Keep words.Bad caused write memory = refl
 bad_decided Read Write Door Keep words.WriteFault caused write memory = absurd (write caused)
 bad_decided Read Write Door Keep words.OutOfMemory caused write memory = absurd (memory refl)
 
--- an edge ends with its door
+-- an edge ends with status 0 unless something failed
 edge_decided : (Read Write Door Keep : Type 0) (end : ServingEnd) → Caused (serving_status end) Read Write Door Keep → ¬ Write → ¬ Door
     → code_of (serving_status end) ≢ 6 → code_of (serving_status end) ≡ 0
 edge_decided Read Write Door Keep serving.Closed caused write door memory = refl
@@ -226,7 +226,7 @@ load_decided Read Write Door Keep (Ok u) caused write memory = refl
 load_decided Read Write Door Keep (Err load.WriteFault) caused write memory = absurd (write caused)
 load_decided Read Write Door Keep (Err load.Memory) caused write memory = absurd (memory refl)
 
--- a property of the status of a command's end is one of the program's status
+-- a property of the exit code of a command's end holds for the program's exit code
 of_end : {E : Type 0} {status_of : E → Status} {EndsSo : E → Type 0} (status : Status) (Read Write Door Keep : Type 0) (P : ℕ → Type 0)
     (ended : Ended status_of EndsSo status) → Caused status Read Write Door Keep → code_of status ≢ 6
     → (Caused (status_of ended.end) Read Write Door Keep → code_of (status_of ended.end) ≢ 6 → P (code_of (status_of ended.end))) → P (code_of status)
@@ -267,7 +267,7 @@ by_arguments {Read} {Write} {Door} (Err Bad) status before after ended caused re
     (λ cause some. bad_decided Read Write Door (FailsToOpenKeeper before after) ended.end cause write some)
 by_arguments (Err Memory) status before after ends caused read write door memory = ap code_of ends
 
--- so they determine its exit code, if no count rose and memory didn't run out
+-- the arguments and the input determine the exit code, if no fault count rose and memory didn't run out
 pub decided : {Read Write Door : Type 0} (reading : WordsReading) (status : Status) (code : ℕ) (before after : Scene)
     → code ≡ code_of status → Ends reading status before after → Caused status Read Write Door (FailsToOpenKeeper before after)
     → ¬ Read → ¬ Write → ¬ Door → code ≢ 6 → IsDecided reading code before after

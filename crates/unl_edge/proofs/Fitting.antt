@@ -1,4 +1,4 @@
--- Properties of arguments in their ranges: their texts fit in a header line, and their environments differ.
+-- Properties of arguments that are in their ranges: addresses and tokens fit in a header line, and the environments of the tokens differ.
 use Rattle.std.proofs.Common.{◌≡◌, ◌<◌, ◌≤◌, ◌+◌, ◌==◌, ◌&&◌, ◌||◌, ◌∙◌, ℕ, zero, suc, Bool, true, false, cond, not, List, [], ◌∷◌, drop, take, length, map, Option, Some, None, Err, refl, ap, subst, arith, nat_le, nat_lt}
 use Rattle.std.specs.Prelude.{All, IsTrue, is_ok, option_map, slice_index, unwrap_or}
 use Rattle.std.specs.Char.{is_ascii_digit}
@@ -22,7 +22,7 @@ use Rattle.unl_words.proofs.Known.{counted, others_differ}
 
 -- ---- texts
 
--- a byte that doesn't end a line fits in one
+-- a byte other than NUL, line feed and carriage return fits in a line
 byte_fits : (nul feed return : Bool) → (not return && (not feed && not nul)) ≡ true → not (nul || feed || return) ≡ true
 byte_fits true feed true is = absurd (cc is)
 byte_fits true true false is = absurd (cc is)
@@ -75,7 +75,7 @@ line_around (byte ∷ text) (suc place) inside here before after =
     let parts = both (is_line_byte byte) (is_line (take place text)) before in
     rw (parts.0, line_around text place (omega (arith, inside)) here parts.1 after) refl
 
--- the last place of a byte below a bound
+-- `place` has this byte and is below the bound `most`
 record IsFound (byte : ℕ) (text : List ℕ) (most place : ℕ) : Type 0 where
   below : place < most
   here : slice_index text place ≡ byte

@@ -31,7 +31,7 @@ use Rattle.unl_workers.specs.declared.worker.WorkerSlot.{WorkerSlot}
 
 -- ---- slots with new books
 
--- the receiver after one more part was split off
+-- the receiver after one more part went to a sender
 pub less_parts : (first v w : Receiving) → v ≡ record first { parts = v.parts } → w ≡ record v { parts = v.parts - 1 }
     → w ≡ record first { parts = w.parts }
 less_parts first v w kept less = λ i. record {
@@ -115,7 +115,7 @@ all_hand_to {W} {R} coming_of receiver last_receiver (first ∷ before) (last �
     All-cons (HandsTo last_receiver) last after (all.0.keeps.1 ∙ ((All-head New first before books).queue ∙ sym same))
     (all_hand_to coming_of receiver last_receiver before after same (All-tail New first before books) all.1)
 
--- the senders are those of the receiver
+-- the senders put books into the queue of the receiver
 pub hand_to : {W R : Type 0} (coming_of : R → Coming) (receiver now last : Receiving) (before : List (WorkerSlot (EdgeLinkHandler W) R))
     (served : Result (PoolOutcome (EdgeLinkHandler W) R) PoolFault) → now.queue ≡ receiver.queue
     → All (λ pool_slot. HasNewBook receiver pool_slot.server) before → OnOk served (KeepsReceiver now last)

@@ -16,7 +16,7 @@ ends_so : (result : Result Unit Memory) (Done Stopped : PollState → PollState 
 ends_so (Ok u) Done Stopped before after done = inl done
 ends_so (Err e) Done Stopped before after stopped = inr stopped
 
--- what a turn says of a poller with this duty, whatever its tags and metrics are
+-- `TurnEnds`, by the result of the turn: it was made on `Ok`, and stopped on `Err`
 abbrev TurnEndsByResult : Result Unit Memory → Duty → List (Option (List ℕ)) → Book → Installed → PeerView → PollState → Type 0
 TurnEndsByResult result duty tags metrics installed peer after =
     installed.front + duty.slots + 1 < 2 ^ 64 - 1 → duty.slots ≤ length installed.places
@@ -51,7 +51,7 @@ later_made duty drained last installed installed_last peer peer_last result inta
         subst (λ (d : Duty). TurnEndsByResult result d d.tags drained.metrics installed peer
         (poll_state installed_last last.tags last.metrics peer_last)) same ends
 
--- ---- several
+-- ---- several later turns
 
 work_on : (first middle last : Duty) → SameWork first middle → SameWork middle last → SameWork first last
 work_on first middle last one two = record {
@@ -61,7 +61,7 @@ work_on first middle last one two = record {
   upstream = two.upstream ∙ one.upstream;
 }
 
--- a turn with a duty is one with another that is the same work
+-- a later turn of a poller is one of any poller with the same fixed parameters
 same_turn : (first now : Duty) (before after : Refreshing) → SameWork first now → LaterTurn now before after → LaterTurn first before after
 same_turn first now before after same turn =
     let moved : LaterTurn (record first { tags = now.tags; metrics = now.metrics }) before after =
@@ -78,7 +78,7 @@ same_turn first now before after same turn =
       metrics = now.metrics;
     }
 
--- what a poller works with stays the same
+-- if only the tags and the metrics change, the fixed parameters stay the same
 work_of : (first now : Duty) → KeepsDuty first now → SameWork first now
 work_of first now keeps = record {
   known = ap (λ (d : Duty). d.known) keeps;
@@ -93,7 +93,7 @@ turns_same first now same zero before after made = made
 turns_same first now same (suc n) before after made =
     (made.0, turns_same first now same n before made.0 made.1, same_turn first now made.0 after same made.2)
 
--- turns after the first, with the poller that it left
+-- the turns after the first, stated for the poller as it was before the first
 pub polls_same : (first now : Duty) (before after : Refreshing) → KeepsDuty first now → PollsOn now before after → PollsOn first before after
 polls_same first now before after keeps polls =
     record { turns = polls.turns; made = turns_same first now (work_of first now keeps) polls.turns before after polls.made }
@@ -113,7 +113,7 @@ turns_on state_of duty_of Turned one (suc n) before after many =
       work_on (duty_of before) (duty_of many.0) (duty_of after) earlier.1 last.1,
     )
 
--- the turns of a periodic job, seen as those of its poller
+-- the turns of a periodic task are later turns of its poller
 pub polls_on : {N : Type 0} (after before : N) (Turned Keeps : N → N → Type 0) (n : ℕ) (pace pace_after : Option ℕ)
     → MakesTurns Turned Keeps n before after pace pace_after → (state_of : N → Refreshing) (duty_of : N → Duty)
     → ((x y : N) → Turned x y → LaterTurn (duty_of x) (state_of x) (state_of y) × SameWork (duty_of x) (duty_of y))

@@ -1,4 +1,4 @@
--- The links that worker slots served, as those that the workers of an edge served.
+-- Lemmas that turn facts about the links of worker slots into facts about the links of an edge's workers (`EachLinkServed`).
 use Rattle.std.proofs.Common.{◌≡◌, ◌∙◌, ◌<◌, ℕ, ◌+◌, List, [], ◌∷◌, ◌++◌, length, map, Option, Some, Result, Ok, Err, Bool, true, ap, refl, subst, sym}
 use Rattle.std.specs.Prelude.{All, IfOk, OnOk, flat_map}
 use Rattle.std.specs.List.{AllZip}
@@ -59,7 +59,7 @@ states_handed left sent faults (link ∷ links) before after many =
 
 -- ---- slots as workers
 
--- the worker of a serving state
+-- a worker's state, from its link handler and its draws to come
 abbrev worker_in : {W : Type 0} → ServerAndDraws (EdgeLinkHandler W) → EdgeWorker
 worker_in serving = record { reader = serving.server.desk.reader; book = book_of serving.server; coming = serving.coming }
 
@@ -146,7 +146,7 @@ each_after_turn service now begun ended peer peer_after door door_after (Ok acce
     }
 each_after_turn service now begun ended peer peer_after door door_after (Err fault) turn keeps same edition installs opens leads every = tt
 
--- the same edge service, by its parts
+-- what holds for an edge service that is given by its parts holds for `service_at`
 pub same_service : (duty : Duty) (board : Board) (begun : Installed) (edition : Option BoardAt) (workers readers : ℕ)
     (peer peer_after : PeerView) (door door_after : DoorState) (served : Result AcceptOutcome PoolFault)
     → begun ≡ opened board → edition ≡ Some (orderly_opening board) → readers ≡ workers → 0 < workers

@@ -36,11 +36,11 @@ use Rattle.unl_workers.specs.declared.pool.PoolFault.{PoolFault}
 use Rattle.unl_workers.specs.declared.pool.PoolFault.TheVariants.{Spawner, Memory}
 use Rattle.unl_workers.specs.declared.worker.WorkerSlot.{WorkerSlot}
 
--- the worker of a serving state
+-- a worker's state, from its link handler and its draws to come
 works_by : {W : Type 0} → ServerAndDraws (EdgeLinkHandler W) → EdgeWorker
 works_by serving = record { reader = serving.server.desk.reader; book = book_of serving.server; coming = serving.coming }
 
--- links that were served, and the reader after them
+-- if `n` links were served, the worker served `n` links, and its reader still began with the same installs
 links_served : {W : Type 0} (edition : Option BoardAt) (installs : List Install) (n : ℕ) (before after : ServerAndDraws (EdgeLinkHandler W))
     → Began edition installs before.server.desk.reader → ServesMany ServesAt n before after
     → WorkerServesLinks edition installs n (works_by before) (works_by after) × Began edition installs after.server.desk.reader
@@ -53,7 +53,7 @@ links_served edition installs (suc n) before after start many =
     let last = serves_after edition installs (works_by many.0) (works_by after) one.link one.link_after earlier.1 one.served in
     ((works_by many.0, earlier.0, record { link = one.link; link_after = one.link_after; served = last.0 }), last.1)
 
--- a slot that was served, and what its reader knows after it
+-- the worker of a slot that served links, and the boards that its reader answers from after them
 served_links : {W R : Type 0} (coming_of : R → Coming) (edition : Option BoardAt) (installs : List Install)
     (before after : WorkerSlot (EdgeLinkHandler W) R) → Began edition installs before.server.desk.reader
     → ServesSlot ServesAt ReadsOnAt coming_of before after
@@ -64,7 +64,7 @@ served_links coming_of edition installs before after start attends =
     (serving after.server (coming_of after.draws)) start attends.served in
     ((after.links, links.0), known_after edition installs after.server.desk.reader links.1)
 
--- each slot that was served, and what its reader knows after it
+-- the workers of all slots, and the boards that their readers answer from after the links
 pub all_served_links : {W R : Type 0} (coming_of : R → Coming) (known : Knowledge BoardAt Install) (before after : List (WorkerSlot (EdgeLinkHandler W) R))
     → All (λ pool_slot. HasLearned known pool_slot.server.desk.reader) before → AllZip (ServesSlot ServesAt ReadsOnAt coming_of) before after
     → AllZip (Works known.opening known.installs) (map (edge_worker coming_of) before) (map (edge_worker coming_of) after)
@@ -103,7 +103,7 @@ all_open {W} {R} coming_of known (pool_slot ∷ pool_slots) learned =
     (All-head (λ (p : WorkerSlot (EdgeLinkHandler W) R). HasLearned known p.server.desk.reader) pool_slot pool_slots learned).opens
     (all_open coming_of known pool_slots (All-tail (λ (p : WorkerSlot (EdgeLinkHandler W) R). HasLearned known p.server.desk.reader) pool_slot pool_slots learned))
 
--- a reader that learned what the writer knows
+-- a reader that begins with a report of the writer begins with the writer's installs
 pub begins_shared : (known : Knowledge BoardAt Install) (reported : Option (Knowledge BoardAt Install)) (reader : EdgeReader)
     → IfSome reported (λ list. list ≡ shared_knowledge known)
     → (list : Knowledge BoardAt Install) × (reported ≡ Some list) × StartsReader list.opening list.installs reader
@@ -131,7 +131,7 @@ all_ordered {W} {R} coming_of (pool_slot ∷ pool_slots) =
     All-cons (λ (worker : EdgeWorker). SeesInOrder worker.reader) (edge_worker coming_of pool_slot) (map (edge_worker coming_of) pool_slots)
     (sees_in_order pool_slot.server.desk.reader pool_slot.server.desk.steady) (all_ordered coming_of pool_slots)
 
--- one more slot whose reader has learned what is known
+-- with one more slot whose reader has learned `known`, all readers have
 pub learned_more : {W R : Type 0} (known now : Knowledge BoardAt Install) (pool_slots longer : List (WorkerSlot (EdgeLinkHandler W) R)) (pool_slot : WorkerSlot (EdgeLinkHandler W) R)
     → now ≡ known → longer ≡ pool_slots ++ pool_slot ∷ [] → All (λ pool_slot. HasLearned known pool_slot.server.desk.reader) pool_slots → HasLearned now pool_slot.server.desk.reader
     → All (λ pool_slot. HasLearned known pool_slot.server.desk.reader) longer
@@ -151,7 +151,7 @@ pub others_new : (readers rest : List EdgeReader) (reader : EdgeReader) → read
 others_new readers rest reader steps all =
     All-tail IsNewReader reader rest (subst (λ (rs : List EdgeReader). All IsNewReader rs) steps all)
 
--- the workers worked concurrently
+-- the workers of these slots worked concurrently
 unfoldable pub work_concurrently : {W R : Type 0} (coming_of : R → Coming) (known : Knowledge BoardAt Install) (before after : List (WorkerSlot (EdgeLinkHandler W) R))
     (workers : ℕ) → length before ≡ workers → All (λ pool_slot. HasLearned known pool_slot.server.desk.reader) before
     → AllZip (ServesSlot ServesAt ReadsOnAt coming_of) before after → WorkConcurrently workers known.opening known.installs
@@ -213,7 +213,7 @@ caused_so {S} {R} served result door door_after threads threads_after is causes 
 
 -- ---- an edge service
 
--- the upstream was polled in the first turn, and then perhaps again
+-- the connections of the first turn count for the whole run, whatever later turns add
 pub asked_first : (slots places : ℕ) {replies later : Option (List (List ℕ))} (last : Option (List (List ℕ))) {faults middle : ℕ} (after : ℕ)
     (served : Result AcceptOutcome PoolFault)
     → slots ≡ places → Connects (slots + 1) replies faults later middle → OnOk served (Connects 0 later middle last after)
@@ -222,7 +222,8 @@ asked_first slots places {replies} last {faults} after (Ok accepted) count first
     subst (λ (n : ℕ). Connects (n + 1) replies faults last after) count (connects_still first then)
 asked_first slots places last after (Err fault) count first then = tt
 
--- turns that were made while links were served, from what the writer had before the workers learned of it, and from a new receiver
+-- The turns that were made while links were served start from what was installed before the workers learned of it, and from a receiver
+-- that had taken nothing.
 pub polls_through : {W R : Type 0} (served : Result (PoolOutcome (EdgeLinkHandler W) R) PoolFault) (duty : Duty) (writer same_writer : Writing)
     (tags : List (Option (List ℕ))) (metrics : Book) (peer : PeerView) (intake same_intake : Intake) (after : Refreshing)
     → OnOk served (PollsOn duty (refreshing (poll_state (installed_by same_writer) tags metrics peer) same_intake) after)

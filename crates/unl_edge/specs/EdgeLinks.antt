@@ -1,5 +1,6 @@
--- Each link (a connection) that the door (the listener) of an edge handed out was served once, by one of the workers. The
--- opening board is the board in `edition`; the installs are the updates that it got afterwards.
+-- Each link (a connection) that the door (the listener) of an edge handed out was served once, by one of the workers.
+-- `edition` has the opening board, the first one published (`None` if it is not known). `installs` are the changes of the board by
+-- the first turn; the installs of later turns follow them.
 use Rattle.std.specs.Prelude.{◌≡◌, ℕ, List, [], ◌∷◌, Option, flat_map, length}
 use Rattle.unl_base.specs.Doors.{DoorState}
 use Rattle.unl_core.specs.declared.board.Install.{Install}
@@ -15,7 +16,7 @@ use Rattle.unl_workers.specs.Queueing.{HandsOutEach}
 use Rattle.unl_workers.specs.Taking.{ServesEach}
 use Rattle.unl_workers.specs.Tallies.{SameLinks}
 
--- each worker served its share, a list of links, one after another
+-- Each worker served the links of its share, one after another. The shares and the workers are in the same order.
 abbrev pub ServesShares : Option BoardAt → List Install → List (List LinkView) → List EdgeWorker → List EdgeWorker → Type 0
 ServesShares edition installs [] [] [] = Unit {0}
 ServesShares edition installs (links ∷ shares) (before ∷ begun) (after ∷ ended) =
@@ -39,14 +40,14 @@ pub record EachLinkServed
   pub served : ServesShares edition installs shares begun ended
   pub same : SameLinks given (flat_map (λ share. share) shares)
 
--- workers served links concurrently, each link of the door once
+-- `workers` workers served links concurrently. Each of the `count` links that the door handed out was served once, by one of them.
 pub record WorkOnEachLink
     (workers : ℕ) (edition : Option BoardAt) (installs : List Install) (door door_after : DoorState) (count : ℕ) : Type 0 where
   pub work : WorkConcurrently workers edition installs
   pub each : EachLinkServed edition installs door door_after count work.begun work.ended
 
 -- Workers served links concurrently, each link of the door once, while the poller made further turns. Each metrics book that the
--- workers handed over was either taken by a turn or still waits to be taken.
+-- workers handed over was either taken by one of these turns or still waits in the queue.
 pub record WorkDuringTurns
     (workers : ℕ) (edition : Option BoardAt) (installs : List Install) (duty : Duty) (before after : PollState)
     (door door_after : DoorState) (count : ℕ) : Type 0 where
@@ -56,7 +57,7 @@ pub record WorkDuringTurns
   pub metrics : ConservesMetrics links.work.begun links.work.ended intake.taken
 
 -- An edge service ran, and its workers served each link of the door once. Each metrics book that they handed over was either taken
--- by a turn of the poller or still waits to be taken.
+-- by a turn of the poller or still waits in the queue.
 pub record ServesEachLink (service : EdgeService) (peer peer_after : PeerView) (door door_after : DoorState) (count : ℕ) : Type 0 where
   pub runs : RunsService service peer peer_after
   pub each : EachLinkServed service.edition runs.installs door door_after count runs.work.begun runs.work.ended

@@ -1,5 +1,5 @@
--- How an edge serves links concurrently, after its first turn. In a turn, the poller makes one request to the upstream for each slot.
--- An install is one change of the board. The front of a board is the number of installs that led to it.
+-- How an edge makes its first turn, and then serves links concurrently. In a turn, the poller asks the upstream for the token book and
+-- then for the state of each slot. An install is one change of the board. The front of a board is the number of installs that led to it.
 use Rattle.std.specs.Prelude.{◌≡◌, ◌≤◌, ℕ, zero, suc, List, [], All, length, map, Option, Some}
 use Rattle.std.specs.List.{AllZip}
 use Rattle.unl_core.specs.Board.{empty_slot}
@@ -24,30 +24,30 @@ use Rattle.unl_words.specs.Lists.{environment_of}
 use Rattle.unl_words.specs.declared.words.EdgeArguments.{EdgeArguments}
 use Rattle.unl_workers.specs.declared.worker.WorkerSlot.{WorkerSlot}
 
--- what an edge service starts from: what its poller works with, what is installed before the first turn, the opening board (`edition`),
--- and the number of workers
+-- what an edge service starts from: what its poller works with, what is installed before the first turn, the opening board (`edition`;
+-- `None` if it is not known), and the number of workers
 pub record EdgeService : Type 0 where
   pub duty : Duty
   pub opening : Installed
   pub edition : Option BoardAt
   pub workers : ℕ
 
--- what is installed on a board before anything is published
+-- what is installed if no install has changed this board: the places of its slots and its book, at front 0
 abbrev pub opened : Board → Installed
 opened board = record { places = map place_at board.slots; front = 0; book = board.book }
 
--- the board of a boot number (a random number, drawn at each start) and a host: an empty slot for each of the upstream's tokens, and
--- no book
+-- the board that an edge begins with: its boot number (a random number, drawn at each start), its host, an empty slot for each of the
+-- upstream's tokens, and an empty token book
 abbrev pub begun_board : ℕ → List ℕ → List (List ℕ) → Board
 begun_board boot host upstream_tokens =
     record { boot = boot; host = host; generation = 0; book = []; slots = map empty_slot (map environment_of upstream_tokens) }
 
--- the edge service that begins with this board
+-- the edge service with this duty, this opening board and this many workers
 abbrev pub service_at : Duty → Board → ℕ → EdgeService
 service_at duty board workers =
     record { duty = duty; opening = opened board; edition = Some (orderly_opening board); workers = workers }
 
--- what the poller of the arguments works with: before its first turn no request has a tag, and there are no metrics
+-- what the poller works with, from the arguments; at the start it has no entity tags, and no metrics to send
 abbrev pub duty_of : EdgeArguments → Duty
 duty_of words = record {
   known = words.tokens;
@@ -58,7 +58,7 @@ duty_of words = record {
   metrics = [];
 }
 
--- the edge service of the arguments, with a boot number
+-- the edge service that begins with these arguments and this boot number
 abbrev pub service_of : EdgeArguments → ℕ → EdgeService
 service_of words boot = service_at (duty_of words) (begun_board boot words.host words.upstream_tokens) words.workers
 
@@ -68,7 +68,7 @@ pub record EdgeWorker : Type 0 where
   pub book : WorkerBook
   pub coming : Coming
 
--- a worker's state, from its worker slot
+-- a worker's state, from its worker slot; `coming_of` maps the slot's source of draws to the draws to come
 abbrev pub edge_worker : {W R : Type 0} → (R → Coming) → WorkerSlot (EdgeLinkHandler W) R → EdgeWorker
 edge_worker coming_of pool_slot =
     record { reader = pool_slot.server.desk.reader; book = book_of pool_slot.server; coming = coming_of pool_slot.draws }
@@ -81,7 +81,7 @@ pub record WorkerServes
   pub served : ServesOver before.reader before.book before.coming link link_after after.reader after.book after.coming
   pub over : All (NotedAfter edition installs after.reader) served.ones
 
--- a worker served a link
+-- a worker served some link
 pub record ServesALink (edition : Option BoardAt) (installs : List Install) (before after : EdgeWorker) : Type 0 where
   pub link : LinkView
   pub link_after : LinkView
@@ -100,7 +100,7 @@ Works edition installs before after = (links : ℕ) × WorkerServesLinks edition
 -- `workers` workers served links concurrently. Before its first link, each worker knew the opening board `edition` and exactly the
 -- installs `installs`. It computed each answer from the opening board after a list of installs that starts with `installs`. The list
 -- that each worker saw is orderly: each version in it results from a batch that applies to the slot's version before. No board that a
--- worker knows has an older version at a slot than a board that it knows at a smaller front.
+-- worker knows has an older version at a slot than a board that the worker knows at a smaller front.
 pub record WorkConcurrently (workers : ℕ) (edition : Option BoardAt) (installs : List Install) : Type 0 where
   pub begun : List EdgeWorker
   pub ended : List EdgeWorker
@@ -112,10 +112,11 @@ pub record WorkConcurrently (workers : ℕ) (edition : Option BoardAt) (installs
   pub over : All (λ worker. AnswersAfter edition installs worker.reader) ended
   pub ordered : All (λ worker. SeesInOrder worker.reader) ended
 
--- The upstream was polled. Each exchange of the first turn had its request and its effect, whether it got a reply or the peer failed.
--- Each later turn was made, or ended because memory ran out, unless the front was near its maximum or there were fewer places than slots.
--- `installs` leads from the opening board to what the first turn installed. After that turn the workers began with `installs`, and each
--- answer on each link was computed from the opening board after a list of installs that starts with them.
+-- The upstream was polled. In the first turn the book and each slot were asked for, and what was installed is what the replies say; the
+-- peer may have failed in an exchange. Each later turn was made too, or ended early because memory ran out; of a later turn nothing is
+-- said if the front was near 2^64 or there were fewer places than slots. `installs` leads from the opening board to what the first turn
+-- installed. After that turn the workers began with `installs`, and each answer on each link was computed from the opening board after a
+-- list of installs that starts with `installs`.
 pub record RunsService (service : EdgeService) (peer peer_after : PeerView) : Type 0 where
   pub first : Installed
   pub installs : List Install

@@ -1,4 +1,5 @@
--- How an edge ends: it polls its upstream and serves the links of its door.
+-- How the command `edge` ends. It polls an upstream and serves the links of a door. Once the door is closed, it prints its last line: the
+-- number of links that the door handed out.
 use Rattle.std.specs.Prelude.{◌≡◌, ◌⊎◌, ℕ, ◌+◌, ◌<◌, ◌≤◌, true, List, Option, option_map, drop, length, IfSome, Result, Ok, Err}
 use Rattle.unl_base.specs.Doors.{IsClosedAt, ListenedOnlyAt, ServedOnlyAt, listening_at}
 use Rattle.unl_base.specs.Draws.{TakesDraw}
@@ -18,15 +19,16 @@ use Rattle.unl_workers.specs.declared.acceptor.AcceptOutcome.{AcceptOutcome}
 use Rattle.unl_workers.specs.declared.pool.PoolOutcome.{PoolOutcome}
 use Rattle.unl_workers.specs.declared.pool.PoolFault.{PoolFault}
 
--- Whatever the first state of the peer was: if `Connects 0` holds from it to the state with `replies` and `faults`, it also holds from it
--- to the later state, with `replies_after` and `faults_after`.
+-- `Connects 0` holds from one state of a peer to a later one if the fault count didn't fall and, unless it rose, the replies to come are
+-- those of before without some at the front. Here: if `Connects 0` holds from any first state to the state with `replies` and `faults`,
+-- it also holds from that first state to the state with `replies_after` and `faults_after`.
 abbrev pub KeepsConnects :
     (replies : Option (List (List ℕ))) (faults : ℕ) (replies_after : Option (List (List ℕ))) (faults_after : ℕ) → Type 0
 KeepsConnects replies faults replies_after faults_after =
     (first : Option (List (List ℕ))) (faults_first : ℕ) → Connects 0 first faults_first replies faults
     → Connects 0 first faults_first replies_after faults_after
 
--- at least `least` connections were made to the peer of the scene, unless it failed
+-- Unless the peer of the scene failed, at least `least` connections were made to it.
 abbrev pub AsksPeer : ℕ → Scene → Scene → Type 0
 AsksPeer least before after = Connects least before.peer.state.replies before.peer.faults after.peer.state.replies after.peer.faults
 
@@ -35,8 +37,8 @@ abbrev pub accepted_in : {S R : Type 0} → Result (PoolOutcome S R) PoolFault �
 accepted_in (Ok outcome) = Ok outcome.accepted
 accepted_in (Err fault) = Err fault
 
--- The door handed out its next `served` links. None was given back to it: the worker that serves a link drops it. Nothing of the input
--- was read.
+-- The door handed out its next `served` links. No link was given back to the door: the worker that serves a link drops it. Nothing of
+-- the input was read.
 pub record HandsLinks (served : ℕ) (before after : Scene) : Type 0 where
   pub given : after.door.state.given ≡ before.door.state.given + served
   pub had : IfSome before.door.state.links (λ list. served ≤ length list)
@@ -44,7 +46,7 @@ pub record HandsLinks (served : ℕ) (before after : Scene) : Type 0 where
   pub left : after.door.state.links ≡ option_map (λ list. drop served list) before.door.state.links
   pub unread : after.input.left ≡ before.input.left
 
--- Unless it failed, the peer was asked for the book and for each slot at least once. Each turn made its exchanges in order. After the
+-- Unless the peer failed, it was asked for the book and for each slot at least once. Each turn made its exchanges in order. After the
 -- first turn, with the door listening at this port, `served` links were handed out, and each was served once, by one of the workers.
 abbrev pub IsServed : EdgeService → ℕ → ℕ → Scene → Scene → Type 0
 IsServed service port served before after = AsksPeer (length service.opening.places + 1) before after
@@ -62,9 +64,9 @@ StopsAtLine service port before after =
     (served : ℕ) × HandsLinks served before after × IsServed service port served before after
     × (after.output.sent ≡ before.output.sent) × IsClosedAt port before.door.state after.door.state
 
--- How an edge ends whose door is to listen at this port.
+-- How an edge ends, by its outcome. Its door is to listen at this port.
 -- `Closed`: the door listened once at the port and was closed. The edge served each link once (`IsServed`) and sent the last line.
--- `WriteFault`: the same, but a prefix of the last line was sent, because the output failed.
+-- `WriteFault`: as `Closed`, but only a prefix of the last line was sent, because the output failed.
 -- `DoorFault`: the door failed, or a thread couldn't be started. Nothing was sent. If links were handed out, `IsServed` holds.
 -- `OutOfMemory`: memory ran out before the first link, or when the last line was to be printed. Nothing was sent.
 abbrev pub EdgeEnds : EdgeService → ℕ → ServingEnd → Scene → Scene → Type 0
@@ -81,7 +83,7 @@ EdgeEnds service port DoorFault before after =
     × ServedOnlyAt port served before.door.state after.door.state × (after.output.sent ≡ before.output.sent)
 EdgeEnds service port OutOfMemory before after = StopsEarly port before after ⊎ StopsAtLine service port before after
 
--- an edge with these arguments takes a draw for its boot number, and ends like this
+-- an edge with these arguments took a draw, whose random word is the boot number, and ended with `end`
 pub record RunsEdge (words : EdgeArguments) (end : ServingEnd) (before after : Scene) : Type 0 where
   pub draw : Draw
   pub coming : Coming

@@ -1,4 +1,5 @@
--- How the program ends, over its endpoints before and after.
+-- How the program ends: what each command has done to the endpoints when it ends with a status, which endpoints it leaves unchanged, and
+-- which exit code it returns. A `Scene` has the states of all endpoints: `before` at the start of the run, `after` at its end.
 use Rattle.std.specs.Prelude.{◌≡◌, ℕ, ◌==◌, List, codes, Option, IfSome, Result, Ok, Err, if◌then◌else◌}
 use Rattle.unl_base.specs.Faults.{Rose}
 use Rattle.unl_base.specs.Streams.{Sends, SendsPrefix}
@@ -33,7 +34,7 @@ use Rattle.unl_words.specs.declared.words.Words.TheVariants.{Replay, Check, Edge
 
 -- ---- a check
 
--- the outcome of a check with this number of failed tests
+-- the outcome of a check (the command `check`) with this number of failed tests
 abbrev pub report_end : ℕ → CheckEnd
 report_end failed = if failed == 0 then Passed else TestsFailed
 
@@ -48,14 +49,16 @@ refused_end (Ok u) = Refused
 refused_end (Err say.WriteFault) = WriteFault
 refused_end (Err say.Memory) = OutOfMemory
 
--- The input was read, and its report or the cause of its refusal was sent in full. `end` is determined by the outcome.
+-- The input was read, and the report of its tests, or the cause of its refusal, was sent in full. `end` says which: all tests passed, a
+-- test failed, or the input was refused. `left` and `left_after` are the bytes that the input still had before and after the check, `old`
+-- and `new` the bytes that the output was sent before and after (`None` if not observable).
 pub record PrintsReport (draw : Draw) (end : CheckEnd) (left left_after old new : Option (List ℕ)) : Type 0 where
   pub outcome : InputOutcome Report
   pub says : Says (report_reading draw) text_of outcome left left_after old new
   pub ends : end ≡ outcome_end outcome
 
--- How a check ends, even if the input's bytes are not observable. If the input failed or memory ran out, nothing was sent; if the
--- output failed, a prefix of the text was sent.
+-- How a check ends. If the tests were run or the input was refused, the report or the cause was sent in full. If the input failed or
+-- memory ran out, nothing was sent. If the output failed, a prefix of the report or of the cause was sent.
 abbrev pub CheckEnds : Draw → CheckEnd → Option (List ℕ) → Option (List ℕ) → Option (List ℕ) → Option (List ℕ) → Type 0
 CheckEnds draw Passed left left_after old new = PrintsReport draw Passed left left_after old new
 CheckEnds draw TestsFailed left left_after old new = PrintsReport draw TestsFailed left left_after old new
@@ -67,7 +70,8 @@ CheckEnds draw OutOfMemory left left_after old new = new ≡ old
 
 -- ---- a load
 
--- How a load of a seed and a count ends: its line was sent; a prefix of it, if a write failed; or nothing, if out of memory.
+-- How the command `load` with this seed and this count of evaluations ends. Its line was sent: all of it, a prefix if a write failed, or
+-- nothing if memory ran out.
 abbrev pub LoadEnds : ℕ → ℕ → Result (Unit {0}) LoadFault → Option (List ℕ) → Option (List ℕ) → Type 0
 LoadEnds seed count (Ok u) old new = Sends old (load_line seed count) new
 LoadEnds seed count (Err load.WriteFault) old new = SendsPrefix old (load_line seed count) new
@@ -79,7 +83,7 @@ LoadEnds seed count (Err load.Memory) old new = new ≡ old
 abbrev pub bad_arguments_line : List ℕ
 bad_arguments_line = codes "unl_edge: bad words\n"
 
--- The line for bad arguments was sent, or a prefix of it if a write failed; or memory ran out, and nothing was sent.
+-- The line for bad arguments was sent: all of it, a prefix if a write failed, or nothing if memory ran out.
 abbrev pub PrintsBadArguments : ArgumentsEnd → Option (List ℕ) → Option (List ℕ) → Type 0
 PrintsBadArguments words.Bad old new = Sends old bad_arguments_line new
 PrintsBadArguments words.WriteFault old new = SendsPrefix old bad_arguments_line new
@@ -87,13 +91,14 @@ PrintsBadArguments words.OutOfMemory old new = new ≡ old
 
 -- ---- the program
 
--- a command ended with `end`, which gives this status
+-- a command ended with `end`: the status is `status_of end`, and `EndsSo end` says what the command has done
 pub record Ended {E : Type 0} (status_of : E → Status) (EndsSo : E → Type 0) (status : Status) : Type 0 where
   pub end : E
   pub is : status ≡ status_of end
   pub ends : EndsSo end
 
--- How the program ends, by the command of its arguments.
+-- How the program ends with this status, by the command that its arguments name. If the arguments are bad, the line for bad arguments is
+-- printed. If memory runs out while the arguments are read, the status is `OutOfMemory` (`LeavesAlone` says that nothing else happens).
 abbrev pub Ends : WordsReading → Status → Scene → Scene → Type 0
 Ends (Ok Replay) status before after =
     Ended lines_status
@@ -116,7 +121,7 @@ Ends (Ok (Load seed count)) status before after =
 Ends (Err Bad) status before after = Ended arguments_status (λ end. PrintsBadArguments end before.output.sent after.output.sent) status
 Ends (Err Memory) s before after = s ≡ status.OutOfMemory
 
--- Each endpoint that the command doesn't use is unchanged: its state and its fault count. If memory ran out before the arguments were
+-- The state and the fault count of each endpoint that the command doesn't use are unchanged. If memory ran out while the arguments were
 -- read, no endpoint changed.
 abbrev pub LeavesAlone : WordsReading → Scene → Scene → Type 0
 LeavesAlone (Ok Replay) before after = ChangesStreams before after
@@ -129,12 +134,13 @@ LeavesAlone (Ok (Load seed count)) before after = ChangesOutput before after
 LeavesAlone (Err Bad) before after = ChangesOutput before after
 LeavesAlone (Err Memory) before after = after ≡ before
 
--- the exit code is that of a status with which the program ended
+-- `code` is the exit code of a status for which `EndsSo` holds
 abbrev pub Exits : ℕ → (Status → Type 0) → Type 0
 Exits code EndsSo = (status : Status) × (code ≡ code_of status) × EndsSo status
 
--- What each exit code of a fault implies. Code 4 (input) or 5 (output): that endpoint failed. Code 7 (door): the door failed, or a job
--- couldn't be started. Code 8 (the store of an upstream's commands): the fault count of `keep` rose, and the door gave no link.
+-- What each exit code that reports a fault implies. Code 4: the input failed. Code 5: the output failed. Code 7: the door failed, or a
+-- thread couldn't be started. Code 8: the fault count of the maker of keepers (the stores of an upstream's commands) rose, and the door
+-- handed out no link. An endpoint failed if its fault count rose.
 pub record CodeHasCauses (code : ℕ) (before after : Scene) : Type 0 where
   pub read : code ≡ 4 → Rose before.input.faults after.input.faults
   pub write : code ≡ 5 → Rose before.output.faults after.output.faults
@@ -143,13 +149,15 @@ pub record CodeHasCauses (code : ℕ) (before after : Scene) : Type 0 where
 
 -- ---- what determines the exit code if nothing fails and memory doesn't run out
 
--- the status of an explanation, from the result of processing its input
+-- the status of the command `explain`, from the result of processing its input
 abbrev pub explained_status : InputOutcome (List ℕ) → Status
 explained_status (Ok line) = status.Done
 explained_status (Err refusal) = status.Refused
 
--- The exit code is determined by the arguments and the input. Bad arguments alone determine it. For an upstream this holds only
--- if the fault count of `keep` didn't rise.
+-- What determines the exit code, by the command. For `replay`, `check` and `explain` it is the input, if its bytes are observable. For
+-- `upstream` it is the rows of the keeper and then the lines of the input (`IsDecidedByLines`); nothing is said if the fault count of the
+-- maker of keepers rose. The other codes are fixed: 0 for `edge`, `follow` and `load`, 2 for bad arguments, and 6 if memory ran out
+-- while the arguments were read.
 abbrev pub IsDecided : WordsReading → ℕ → Scene → Scene → Type 0
 IsDecided (Ok Replay) code before after = IfSome before.input.left (λ bytes. code ≡ code_of (ending_status (replay_of bytes).ending))
 IsDecided (Ok (Check now word)) code before after =

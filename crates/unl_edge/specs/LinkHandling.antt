@@ -1,6 +1,6 @@
--- The effect of a worker of an edge on its state when it serves a link (a client's connection). The worker answers requests from the
--- newest board that its reader sees: the published data of all environments. It collects the metrics that clients report in a book, and
--- passes that book to the poller through a queue. A front is a number of publications. The board at a front is the board after them.
+-- How the state of an edge's worker changes when it serves a link (a client's connection). The worker answers requests from the newest
+-- board that its reader sees. The metrics that clients report are added to a book, which the worker hands over to the poller through a
+-- queue. A front is a number of installs (published changes of the board). The board at a front is the board after that many installs.
 use Rattle.std.specs.Prelude.{◌≡◌, ◌≤◌, ℕ, List, [], length, max, Option, Some}
 use Rattle.unl_core.specs.declared.board.Board.{Board}
 use Rattle.unl_core.specs.Desk.{Keeps}
@@ -23,20 +23,20 @@ use Rattle.unl_connection.specs.Notes.{DrawsAtLeast, LooksFor, Notes, NotesNothi
 use Rattle.unl_connection.specs.declared.served.ServedOne.{ServedOne}
 use Rattle.unl_refresh.specs.MetricsQueues.{HandsOver}
 
--- The reader continues from the publication of the writer with the knowledge `known`: both have the same `atomic_table` and the same
--- opening board (the board that was published first). What the reader saw begins with that opening board too.
+-- The reader reads the publication of the writer whose knowledge is `known`: both have the same table, which identifies a publication, and
+-- the same opening board (the board that was published first). The reader's last look had that opening board too.
 pub record IsOfOrigin (known : Knowledge BoardAt Install) (reader : EdgeReader) : Type 0 where
   pub next : SameOrigin known (continuation_of reader)
   pub seen : (seen_by reader).opening ≡ known.opening
 
--- A new reader that has learned all publications in `known`, so it answers from no earlier board. It has the same opening board, has not
--- looked for a newer one yet, and continues from exactly the installs in `known`.
+-- A new reader that has learned all installs in `known`, so it answers from no earlier board. It has the opening board of `known`, has not
+-- seen a later board yet, and continues from exactly the installs in `known`.
 pub record HasLearned (known : Knowledge BoardAt Install) (reader : EdgeReader) : Type 0 where
   pub least : length known.installs ≤ learned_front_of reader
   pub opens : (seen_by reader).opening ≡ known.opening
   pub begins : StartsReader known.opening known.installs reader
 
--- A lower bound on the fronts of the boards that a reader answers from: the number of publications that it learned of, or the number
+-- A lower bound on the fronts of the boards that a reader answers from: the number of installs that the reader learned of, or the number
 -- that it saw at its last look, whichever is larger.
 abbrev pub least_front : EdgeReader → ℕ
 least_front reader = max (learned_front_of reader) (front_seen (seen_by reader))
@@ -46,10 +46,11 @@ pub record ReadsOn (before after : EdgeReader) : Type 0 where
   pub rises : least_front before ≤ least_front after
   pub keeps : Keeps (board_of (seen_by before)) (board_of (seen_by after))
 
--- A connection was served with a reader. Each answered request has a note, and it was answered from the board at the front in that note.
--- The metrics that clients reported were added to the worker's book. Then the book was put into the queue, or the worker kept it.
--- The boards that the reader knew are still known.
--- The reader's new list of installs (publications) starts with its old one.
+-- A link was served with a reader, by one look for each answer. Each answered request has a note with a draw and a front: the request was
+-- answered with that draw from the board at that front. The fronts of the notes never fall. The draws were taken in order, and at most one
+-- more. If memory ran out, the reader may have looked once more. The metrics that clients reported were added to the worker's book; then
+-- the book was put into the queue, or the worker kept it. The boards that the reader knew are still known, and the reader's new list of
+-- installs starts with its old one.
 pub record ServesOver
     (before : EdgeReader) (book : WorkerBook) (coming : Coming) (link link_after : LinkView) (after : EdgeReader) (book_after : WorkerBook)
     (coming_after : Coming) : Type 0 where
@@ -65,8 +66,8 @@ pub record ServesOver
   pub keeps : Keeps (board_of (seen_by before)) (board_of (seen_by after))
   pub continues : ContinuesFrom (past_of before) (continuation_of before) after
 
--- The request of this note was answered from this board: the opening board `edition`, after a list of installs that starts with
--- `installs`. The front in the note is the length of that list.
+-- The reader knows the board at the front of this note. This board is the opening board `edition`, if that is known, after a list of
+-- installs that starts with `installs`. The length of the list is the front.
 abbrev pub NotedAfter : Option BoardAt → List Install → EdgeReader → ServedOne → Type 0
 NotedAfter edition installs reader one =
     (board : Board) × (board_of (seen_by reader) one.front ≡ Some board) × IsAfter edition installs one.front board

@@ -5,8 +5,8 @@ use Rattle.unl_edge.specs.WorkerBooks.{new_book}
 use Rattle.unl_metrics.specs.Book.{Book}
 use Rattle.unl_refresh.specs.Handovers.{SameBooks}
 
--- Each worker began with a new book. The books that the workers handed over are those that the turns took and those still in
--- the queue, each once.
+-- Each worker began with no counts, and had handed over no book. The books that the workers handed over are those that the turns took and
+-- those that still wait in the queue, each equally often.
 pub record ConservesMetrics (begun ended : List EdgeWorker) (taken : List Book) : Type 0 where
   pub begins : All (λ worker. worker.book ≡ new_book) begun
   pub waiting : List Book

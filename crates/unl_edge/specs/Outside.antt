@@ -1,4 +1,5 @@
--- What the program's arguments ask for: a database, a bound on connections, the address of a server, an interval, and threads.
+-- What the program's arguments ask of its endpoints: a database, a bound on connections, the address of the server to poll, the interval
+-- between polls, and the number of threads that serve.
 use Rattle.std.specs.Prelude.{ℕ, ◌*◌, Bool, false, List, [], Option, Some, None, nat_lt, option_map, unwrap_or, if◌then◌else◌}
 use Rattle.unl_words.specs.declared.words.Words.{Words}
 use Rattle.unl_words.specs.declared.words.Words.TheVariants.{Replay, Check, Edge, Explain, Follow, Load, Upstream}
@@ -37,7 +38,7 @@ address_asked (Follow replica) = replica.upstream
 address_asked Explain = []
 address_asked (Load seed count) = []
 
--- the nanoseconds between two polls of the server, if the arguments set an interval
+-- the longest wait between two polls of the server, in nanoseconds, if the command polls one (the argument is in seconds)
 abbrev pub interval_asked : Words → Option ℕ
 interval_asked Replay = None
 interval_asked (Check now word) = None
@@ -47,7 +48,7 @@ interval_asked (Follow replica) = Some (replica.interval * 1000000000)
 interval_asked Explain = None
 interval_asked (Load seed count) = None
 
--- the number of threads that serve connections, besides the thread that accepts them
+-- the number of threads that serve connections, besides the thread that accepts them; 0 if there are none
 abbrev pub workers_asked : Words → ℕ
 workers_asked Replay = 0
 workers_asked (Check now word) = 0
@@ -57,6 +58,6 @@ workers_asked (Follow replica) = 0
 workers_asked Explain = 0
 workers_asked (Load seed count) = 0
 
--- a value from the arguments, or `otherwise` if they could not be read
+-- a value from the arguments, or `otherwise` if the arguments were refused
 abbrev pub from_arguments : {A : Type 0} → A → (Words → A) → Option Words → A
 from_arguments otherwise of words = unwrap_or (option_map of words) otherwise

@@ -1,4 +1,4 @@
--- The turns of an edge's poller: the first, and those that follow while its workers serve links.
+-- The turns of an edge's poller: the first, and those that follow while the edge's workers serve links.
 use Rattle.std.specs.Prelude.{◌≡◌, ◌⊎◌, ◌<◌, ◌≤◌, ◌+◌, ◌-◌, ◌^◌, ℕ, length}
 use Rattle.unl_delta.specs.Installing.{Installed}
 use Rattle.unl_metrics.specs.Book.{Book}
@@ -14,15 +14,15 @@ pub record SameWork (before after : Duty) : Type 0 where
   pub slot_pollers : after.slot_pollers ≡ before.slot_pollers
   pub upstream : after.upstream ≡ before.upstream
 
--- A turn was made, or it stopped because memory ran out. Nothing is claimed if the front (the number of publications) is so near its
--- maximum that the turn could exceed it, or if the poller has more slots than there are places.
+-- A turn was made, or it stopped because memory ran out. Nothing is said if the front (the number of installs) is so near 2^64 - 1 that
+-- one install for the token book and one for each slot could reach that number, or if the poller has more slots than there are places.
 abbrev pub TurnEnds : Duty → PollState → PollState → Type 0
 TurnEnds duty before after =
     before.installed.front + duty.slots + 1 < 2 ^ 64 - 1 → duty.slots ≤ length before.installed.places
     → MakesTurn duty.known duty.upstream duty.slot_pollers before after
     ⊎ StopsInTurn duty.known duty.upstream duty.slot_pollers before after
 
--- what later turns change: what a turn changes, and what the poller has taken from the workers
+-- what later turns change: what each turn changes, and the metrics books that the poller has taken from the workers
 pub record Refreshing : Type 0 where
   pub poll : PollState
   pub intake : Intake
@@ -37,11 +37,11 @@ pub record LaterTurn (duty : Duty) (before after : Refreshing) : Type 0 where
   pub merges : Merges before.poll.metrics before.intake metrics after.intake
   pub ends : TurnEnds duty (record before.poll { metrics = metrics }) after.poll
 
--- A receiver took books, and nothing else changed.
+-- A receiver of metrics may have taken books. Nothing else of it changed.
 abbrev pub KeepsReceiver : Receiving → Receiving → Type 0
 KeepsReceiver before after = after ≡ record before { intake = after.intake }
 
--- Some later turns were made, one after another.
+-- Any number of later turns, also none, were made one after another.
 pub record PollsOn (duty : Duty) (before after : Refreshing) : Type 0 where
   pub turns : ℕ
   pub made : Turns (LaterTurn duty) turns before after

@@ -1,4 +1,4 @@
--- The state of each of the program's endpoints. A field is `None` if it is not observable.
+-- The states of the program's endpoints. A field that is an `Option` is `None` if it is not observable, as with real sockets and files.
 use Rattle.std.specs.Prelude.{◌≡◌, ◌⊎◌, ℕ, List, Option}
 use Rattle.unl_base.specs.Doors.{DoorState}
 use Rattle.unl_base.specs.Faults.{Rose}
@@ -40,7 +40,7 @@ pub record Scene : Type 0 where
   pub spawner : ℕ
   pub keep : MakerState
 
--- the door failed, or a job could not be started
+-- the door failed, or a thread could not be started: the fault count of the door or of the spawner rose
 abbrev pub ServingFailed : Scene → Scene → Type 0
 ServingFailed before after = Rose before.door.faults after.door.faults ⊎ Rose before.spawner after.spawner
 
@@ -54,15 +54,15 @@ ChangesStreams before after = after ≡ record before { input = after.input; out
 abbrev pub ChangesOutput : Scene → Scene → Type 0
 ChangesOutput before after = after ≡ record before { output = after.output }
 
--- what a replica may change: the output, the peer, the draws and the pace
+-- what the command `follow` may change: the output, the peer, the draws and the pace
 abbrev pub ChangesForReplica : Scene → Scene → Type 0
 ChangesForReplica before after =
     after ≡ record before { output = after.output; peer = after.peer; draws = after.draws; pace = after.pace }
 
--- what an upstream may change: the input, the output, the door, the draws and the maker of keepers
+-- what the command `upstream` may change: the input, the output, the door, the draws and the maker of keepers
 abbrev pub ChangesForUpstream : Scene → Scene → Type 0
 ChangesForUpstream before after = after ≡ record after { peer = before.peer; pace = before.pace; spawner = before.spawner }
 
--- what an edge may change: all but the input and the maker of keepers
+-- what the command `edge` may change: all but the input and the maker of keepers
 abbrev pub ChangesForEdge : Scene → Scene → Type 0
 ChangesForEdge before after = after ≡ record after { input = before.input; keep = before.keep }

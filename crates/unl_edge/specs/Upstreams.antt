@@ -1,5 +1,5 @@
--- How the command `upstream` ends: it creates an upstream and a keeper, runs the upstream on the keeper, and returns the keeper to its
--- maker.
+-- How the command `upstream` ends. It creates an upstream and a keeper (the store of the upstream's commands), runs the upstream on the
+-- keeper, and returns the keeper to the maker that created it.
 use Rattle.std.specs.Prelude.{◌≡◌, ◌⊎◌, ℕ, List, [], ◌++◌, Option, Some, IfSome, option_map}
 use Rattle.unl_base.specs.Draws.{TakesDraw}
 use Rattle.unl_base.specs.declared.draws.Draw.{Draw}
@@ -20,7 +20,7 @@ use Rattle.unl_upstream.specs.declared.ends.UpstreamEnd.TheVariants.{OutOfMemory
 use Rattle.unl_words.specs.OwnBook.{own_book}
 use Rattle.unl_words.specs.declared.words.UpstreamArguments.{UpstreamArguments}
 
--- the bytes sent, the door and the draws of the scene
+-- of the scene: the bytes sent to the output, the state of the door, and the draws to come
 abbrev pub facing_of : Scene → UpstreamFacing
 facing_of scene = upstream_facing scene.output.sent scene.door.state scene.draws
 
@@ -42,7 +42,7 @@ pub record EndsKept (start : UpstreamState) (port : ℕ) (end : UpstreamEnd) (be
       → IfSome after.keep.held (λ texts. commands_in texts ≡ commands)
 
 -- How an upstream ends from its start state, with a door that is to listen at this port. If the keeper failed or none could be
--- created, or memory ran out before lines were taken, nothing was sent and no link was handed out.
+-- created, or memory ran out before lines were taken, nothing was sent and the door is unchanged. Otherwise `EndsKept` holds.
 abbrev pub UpstreamEnds : UpstreamState → ℕ → UpstreamEnd → Scene → Scene → Type 0
 UpstreamEnds start port NoMemory before after = IsUntouched (facing_of before) (facing_of after)
 UpstreamEnds start port KeeperFault before after = IsUntouched (facing_of before) (facing_of after)
@@ -52,20 +52,20 @@ UpstreamEnds start port (Links end) before after = EndsKept start port (Links en
 
 -- ---- the command
 
--- an upstream with these arguments begins, and takes a draw for its boot number
+-- an upstream with these arguments has the state `start` at its start; its boot number is the random word of the draw that was taken
 pub record Begins (words : UpstreamArguments) (coming : Coming) (start : UpstreamState) (coming_after : Coming) : Type 0 where
   pub draw : Draw
   pub taken : TakesDraw coming draw coming_after
   pub opens : start ≡ opening draw.word words.secret words.environments (own_book words.client_tokens words.frontend_tokens) words.epoch
 
--- an upstream with these arguments began, and ended like this
+-- an upstream with these arguments began, and ended with `end`
 pub record RunsUpstream (words : UpstreamArguments) (end : UpstreamEnd) (before after : Scene) : Type 0 where
   pub start : UpstreamState
   pub coming : Coming
   pub begins : Begins words before.draws start coming
   pub ends : UpstreamEnds start words.port end (record before { draws = coming }) after
 
--- how an upstream with these arguments ends; if memory ran out before it took lines, nothing was sent and no link was handed out
+-- how an upstream with these arguments ends; if memory ran out before lines were taken, nothing was sent and the door is unchanged
 abbrev pub UpstreamRuns : UpstreamArguments → UpstreamEnd → Scene → Scene → Type 0
 UpstreamRuns words NoMemory before after = IsUntouched (facing_of before) (facing_of after)
 UpstreamRuns words KeeperFault before after = RunsUpstream words KeeperFault before after
@@ -75,19 +75,20 @@ UpstreamRuns words (Links end) before after = RunsUpstream words (Links end) bef
 
 -- ---- what determines the exit code if nothing fails and memory doesn't run out
 
--- the exit code by how the lines end
+-- the exit code if the lines of these bytes are taken and nothing fails: 0 if all lines are accepted, 3 if one is refused
 abbrev pub lines_code : {D : Type 0} → Taking D → D → List ℕ → ℕ
 lines_code taking desk bytes = code_of (ending_status (lines_outcome taking desk bytes).ending)
 
--- the exit code is 3 if a row is refused, and otherwise that of how the lines end
+-- The exit code is 3 if a row of the keeper is missing or refused. Otherwise, if the input `left` is observable, it is the code for its
+-- lines (`lines_code`).
 abbrev pub IsDecidedFrom : KeptState → ℕ → Option (List ℕ) → Type 0
 IsDecidedFrom start code left =
     ((place : ℕ) × RefusesUpstreamRow start place × (code ≡ 3))
     ⊎ ((reopened : ℕ) × (opened : KeptState) × ReopensUpstream start reopened opened
     × IfSome left (λ bytes. code ≡ lines_code keeping (kept_lines_of opened) bytes))
 
--- The exit code, for an upstream that starts with these arguments and is reopened on a new keeper: 3 if a row is refused, otherwise
--- that of how the lines end. If the maker's rows and the input are observable, it is that of how the lines end without a keeper.
+-- The exit code, for an upstream that starts with these arguments and is reopened on a new keeper: as `IsDecidedFrom` says. If the
+-- maker's rows and the input are observable, it is the code for the input's lines when they are taken without a keeper.
 pub record IsDecidedByLines (words : UpstreamArguments) (code : ℕ) (before : Scene) : Type 0 where
   pub start : UpstreamState
   pub coming : Coming

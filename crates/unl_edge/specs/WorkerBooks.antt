@@ -1,12 +1,12 @@
--- The metrics of a worker: usage counts, which the worker hands over through a queue to the thread that polls the upstream. A book is a
--- list of counts.
+-- The metrics of a worker: how many times each feature was on and off, as its clients report. A book is a list of such counts. The worker
+-- hands books over, through a queue, to the thread that polls the upstream.
 use Rattle.std.specs.Prelude.{◌≡◌, List, []}
 use Rattle.unl_edge.specs.declared.link_handler.EdgeLinkHandler.{EdgeLinkHandler}
 use Rattle.unl_metrics.specs.Book.{Book}
 use Rattle.unl_refresh.specs.MetricsQueues.{Receiving}
 use Rattle.unl_workers.specs.declared.worker.WorkerSlot.{WorkerSlot}
 
--- a worker's metrics: the counts that its sender has not put into the queue yet, and the books that it has put there, in order
+-- a worker's metrics: the counts that are not handed over yet, and the books that its sender has put into the queue, in order
 pub record WorkerBook : Type 0 where
   pub counts : Book
   pub handed : List Book
@@ -19,7 +19,7 @@ book_of handler = record { counts = handler.book; handed = handler.sender.handed
 abbrev pub new_book : WorkerBook
 new_book = record { counts = []; handed = [] }
 
--- The worker has no counts and has handed over no book. Its sender and this receiver have the same queue.
+-- The worker has no counts and has handed over no book. The worker's sender and this receiver have the same queue.
 pub record HasNewBook {W : Type 0} (receiver : Receiving) (handler : EdgeLinkHandler W) : Type 0 where
   pub new : book_of handler ≡ new_book
   pub queue : handler.sender.queue ≡ receiver.queue

@@ -9,9 +9,10 @@ use crate::link_handler::EdgeLinkHandler;
 use unl_refresh::MetricsReceiver;
 use unl_workers::{AcceptOutcome, PoolFault, PoolOutcome, WorkerSlot};
 
-/// Returns how many links (connections of clients) the door handed out, and whether it was then closed or failed; or
-/// the fault of the pool. The receiver takes the senders of the slots back. This proves that the metrics books that the
-/// workers handed over are those that the receiver took and those that still wait in the queue.
+/// Returns how many links (connections of clients) the door handed out, and whether the door was then closed or failed;
+/// or the fault of the pool. Drops the receiver. If the pool ran, the receiver first takes the senders of all slots
+/// back. This proves that the metrics books that the workers handed over are those that the receiver took and those
+/// that still wait in the queue.
 pub(crate) fn accepted_in<'a, R: Drop, W>(
     served: Result<PoolOutcome<EdgeLinkHandler<'a, W>, R>, PoolFault>,
     receiver: MetricsReceiver<'a>,
@@ -37,8 +38,8 @@ pub(crate) fn accepted_in<'a, R: Drop, W>(
     }
 }
 
-/// Takes the senders of all slots back. This proves that the books that were handed over are those that the receiver
-/// took and those that still wait in the queue.
+/// Returns the senders of all slots to the receiver, and drops the receiver. Proves that the books that were handed
+/// over are those that the receiver took and those that still wait in the queue.
 fn count_metrics<'a, R: Drop, W>(
     receiver: MetricsReceiver<'a>,
     pool_slots: Vec<WorkerSlot<EdgeLinkHandler<'a, W>, R>>,
@@ -56,7 +57,7 @@ fn count_metrics<'a, R: Drop, W>(
     receiver.all_counted();
 }
 
-/// Takes the sender of a slot back.
+/// Returns the sender of a slot to the receiver. The rest of the slot is dropped.
 fn take_sender_back<'a, R: Drop, W>(
     receiver: &mut MetricsReceiver<'a>,
     pool_slot: WorkerSlot<EdgeLinkHandler<'a, W>, R>,

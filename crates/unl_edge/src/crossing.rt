@@ -1,5 +1,5 @@
-//! Proofs that the parts of a worker's state are `Send`. They are proved part by part, since one proof search over all
-//! of them times out.
+//! Proofs that the parts of a worker's state are `Send`. Each part has a proof of its own, since one proof search over
+//! all parts times out.
 ghost use denote.Ref.{NamedLft};
 ghost use Rattle.std.specs.Thread.{IsSend};
 ghost use Rattle.unl_edge.specs.contracts.link_handler.FreshDesk as DeskType;
@@ -14,12 +14,12 @@ use unl_edge_state::readers_are_send;
 use unl_metrics::MetricsBook;
 use unl_refresh::metrics_ends_are_send;
 
-/// States that `T` is `Send`.
+/// Proves that `T` is `Send`, from its bound.
 fn send_of<T: Send>()
     ensures { IsSend T.row }
 {}
 
-/// A desk is `Send`.
+/// Proves that a desk is `Send`.
 fn desks_cross()
     ensures { IsSend DeskType.the_row }
 {
@@ -27,22 +27,22 @@ fn desks_cross()
     send_of::<FreshDesk>()
 }
 
-/// A metrics book is `Send`.
+/// Proves that a metrics book is `Send`.
 fn books_cross()
     ensures { IsSend BookType.the_row }
 {
     send_of::<MetricsBook>()
 }
 
-/// The notes of a connection are `Send`.
+/// Proves that the notes of a connection are `Send`.
 fn notes_cross()
     ensures { IsSend NotesType.the_row }
 {
     send_of::<Served>()
 }
 
-/// The parts of a worker's state are `Send`, and so is a receiver of metrics. Callers that move any of these to another
-/// thread call this first, to have the facts. It does nothing at run time.
+/// Proves that the parts of a worker's state are `Send`, and a receiver of metrics too. Callers that move any of these
+/// to another thread call this function first. Does nothing at run time.
 pub(crate) fn worker_parts_are_send()
     ensures desk { IsSend DeskType.the_row }
     ensures book { IsSend BookType.the_row }

@@ -35,10 +35,11 @@ use unl_workers::{AcceptOutcome, PoolFault, PoolOutcome, WorkerSlot, run_pool};
 
 /// Serves the links of a listening door with this many workers, over a board that is kept up to date. The upstream is
 /// polled once before the first link is accepted, and then at a pace, concurrently with the workers. Returns the number
-/// of links that the door handed out, and whether it then was closed or failed.
+/// of links that the door handed out, and whether the door was then closed or failed.
 ///
 /// # Errors
-/// `Spawner` if a thread couldn't be started, and `Memory` if out of memory; the door handed out no link then.
+/// `Spawner` if a thread couldn't be started, and `Memory` if out of memory. On both errors the door handed out no
+/// link.
 pub(crate) fn serve_service<D: Door, P, R, T, S: Spawner, W: Wait + Sync>(
     alloc: Global,
     rt: &W,
@@ -81,8 +82,8 @@ where
     }
 }
 
-/// As `serve_service`, with a writer that has published nothing, its readers, and a new receiver of metrics. Ends the
-/// writer.
+/// As `serve_service`, with a writer that has made no install, its readers (one for each worker), and a new receiver
+/// of metrics. Ends the writer's publication.
 fn serve_from<D: Door, P, R, T, S: Spawner, W: Wait + Sync>(
     alloc: Global,
     rt: &W,
@@ -152,8 +153,8 @@ where
     }
 }
 
-/// As `serve_service`, after the first poll. First, each reader learns the installs of `writer`, so that it answers
-/// from no older board.
+/// As `serve_service`, after the first poll. Before any link is accepted, each reader learns the installs of `writer`,
+/// so that no worker answers from an older board.
 fn serve_after<'a, D: Door, P, R, T, S: Spawner, W: Wait + Sync>(
     alloc: Global,
     rt: &'a W,
@@ -210,7 +211,8 @@ where
     }
 }
 
-/// As `serve_after`, with these worker slots. Each slot serves the links that it takes one after the other.
+/// As `serve_after`, with one worker for each of these slots. A worker takes links from a queue, and serves them one
+/// after another.
 fn serve_worker_slots<'a, D: Door, P, R, T, S: Spawner, W: Wait + Sync>(
     alloc: Global,
     rt: &'a W,
@@ -255,8 +257,8 @@ where
     readers_are_send();
     writers_are_send::<W>();
     worker_parts_are_send();
-    // The result is matched, and not returned directly, because the proof treats the `Ok` case apart: only there is it
-    // known that the task still holds the same references.
+    // The result is matched, and not returned directly, because the proof treats the case `Ok` apart: only in this case
+    // it is known that the task still holds the same references.
     match run_pool(alloc, rt, spawner, door, pace, &mut turn, pool_slots) {
         Ok(outcome) => Ok(outcome),
         Err(PoolFault::Spawner) => Err(PoolFault::Spawner),

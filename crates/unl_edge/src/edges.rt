@@ -24,10 +24,11 @@ use unl_upstream::{ServingEnd, print_connections};
 use unl_words::{EdgeArguments, token_environments};
 use unl_workers::PoolFault;
 
-/// Runs an edge until its door is closed or fails, and returns how it ended. The boot number of its board, which
-/// distinguishes this run of the program from others, is a random word. The upstream is polled once. Then the workers
-/// serve the links of the door concurrently, while the upstream is polled again at each turn of `world.pace`. If the
-/// door fails, the links that it accepted before are still served.
+/// Runs an edge until its door is closed or fails, and returns how the run ended. The boot number of the board, which
+/// distinguishes this run of the program from others, is a random word. The door listens, and the upstream is polled
+/// once. Then the workers serve the links of the door concurrently, while the upstream is polled again at each turn of
+/// `world.pace`. If the door fails, the links that it handed out before are still served. If the door is closed, the
+/// number of links is printed.
 pub fn run_edge<I: Source, O: Sink, D: Door, P, R, T, S: Spawner, Q: KeepMaker, W: Wait + Sync>(
     alloc: Global,
     words: &EdgeArguments,
@@ -52,7 +53,7 @@ where
 }
 
 /// Creates a board with an empty slot (an environment without a version) for each of the upstream's tokens, and the
-/// poller that keeps the board up to date.
+/// poller that keeps the board up to date. Fails only if out of memory.
 #[tactic(auto, using(crate::proofs::Fitting::address_fits, crate::proofs::Fitting::tokens_fit, crate::proofs::Fitting::opened_places))]
 fn begin_service(alloc: Global, boot: u64, words: &EdgeArguments) -> Result<(Board, Poller), Memory>
     requires { IsEdge words.now }
@@ -80,7 +81,8 @@ fn begin_service(alloc: Global, boot: u64, words: &EdgeArguments) -> Result<(Boa
     Ok((board, poller))
 }
 
-/// Creates a board with an empty slot for each environment of the upstream's tokens.
+/// Creates a board with an empty slot for each of `environments`, those of the upstream's tokens. Fails only if out of
+/// memory.
 #[tactic(auto, using(crate::proofs::Fitting::few_tokens, crate::proofs::Fitting::names_differ))]
 fn board_of(
     alloc: Global,
@@ -97,7 +99,8 @@ fn board_of(
     Board::new(alloc, boot, host.as_str(), environments)
 }
 
-/// Listens at a port, serves the links of the door until it is closed, and prints their count.
+/// Listens at a port, and serves the links of the door until the door is closed or fails. If it was closed, prints the
+/// number of links.
 fn serve_links<I: Source, O: Sink, D: Door, P, R, T, S: Spawner, Q: KeepMaker, W: Wait + Sync>(
     alloc: Global,
     port: u16,

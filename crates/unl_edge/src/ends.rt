@@ -1,11 +1,11 @@
-//! The outcomes of a check, and of arguments that name no command.
+//! The outcomes of the command `check`, and of bad arguments.
 
-/// The outcome of a check.
+/// The outcome of the command `check`.
 #[derive(Clone, Copy)]
 pub enum CheckEnd {
-    /// All tests passed.
+    /// All tests passed, and the report was printed.
     Passed,
-    /// A test failed.
+    /// At least one test failed, and the report was printed.
     Failed,
     /// The input is refused, and the cause was printed.
     Refused,
@@ -13,17 +13,17 @@ pub enum CheckEnd {
     ReadFault,
     /// The output failed.
     WriteFault,
-    /// Memory ran out.
+    /// Memory ran out, and nothing was printed.
     OutOfMemory,
 }
 
-/// The outcome for arguments that name no command.
+/// The outcome of arguments that name no command, are rejected by clap, or have a value outside its range.
 #[derive(Clone, Copy)]
 pub enum ArgumentsEnd {
-    /// The arguments are bad, and that was printed.
+    /// The line that says that the arguments are bad was printed.
     Bad,
     /// The output failed.
     WriteFault,
-    /// Memory ran out.
+    /// Memory ran out while the arguments were read, and nothing was printed.
     OutOfMemory,
 }

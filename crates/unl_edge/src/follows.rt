@@ -1,4 +1,4 @@
-//! The command `follow`: a replica that follows a server and prints one feature's state turn by turn.
+//! The command `follow`: polls a server turn by turn, and prints after each turn whether one feature is on.
 ghost use Rattle.unl_base.specs.Faults.{Rose};
 ghost use Rattle.unl_edge.specs.Follows.{ask_of, subject_of};
 ghost use Rattle.unl_edge.specs.Status.{Caused, follow_status};
@@ -11,7 +11,9 @@ use unl_follow::{FollowFault, Subject, follow};
 use unl_refresh::first_ask;
 use unl_words::FollowArguments;
 
-/// Polls an upstream turn by turn with a token, and prints at each turn whether a feature is on in a context.
+/// Polls an upstream or an edge with a token, and prints one line after each turn: what the reply was, and whether the
+/// feature of the arguments is on for their context. Makes as many turns as the arguments say, or fewer if the pace
+/// ends.
 ///
 /// # Errors
 /// `WriteFault` if the output fails; `Memory` if out of memory. A fault of the peer doesn't end the run.

@@ -15,10 +15,11 @@ use unl_refresh::MetricsSender;
 use unl_server::Server;
 use unl_workers::LinkHandler;
 
-/// A desk that answers requests with a reader. Each answer is from a board after at least as many installs as the reader
-/// has learned of. A reader that learns a longer list of installs from the writer continues from that list: the list of
-/// its next look starts with the learned one. This reader has never done so, or only while it knew no board but the
-/// opening board (the board before all installs).
+/// A desk that answers requests with a reader. Each answer is computed from a board that results from at least as many
+/// installs as the reader has learned of. A list of installs that a reader learns from a report of the writer replaces
+/// the list that the reader had, and boards that the reader knew before need not follow the new list. But the reader of
+/// this desk has learned a list only while the opening board (the board before all installs) was the only board that it
+/// knew. So all boards that it knows follow one list, and no slot gets an older version in that list.
 #[derive(Drop)]
 pub(crate) struct FreshDesk {
     /// The reader of the published boards.
@@ -55,9 +56,8 @@ impl Desk for FreshDesk {
         (continuation_of first.reader) (continuation_of next.reader) (continuation_of last.reader) };
 }
 
-/// Serves links from the published boards, and hands the reported metrics over to the poller. It has a desk, the
-/// metrics that are not handed over yet, the sender that hands them over, and a buffer for the notes of one connection:
-/// one note for each answered request.
+/// What one worker serves links with. It answers requests from the published boards. After each link it puts the
+/// metrics that clients reported into a queue, from which the poller takes them and sends them upstream.
 #[derive(Drop)]
 pub(crate) struct EdgeLinkHandler<'a, W> {
     /// Answers the requests.
@@ -66,13 +66,13 @@ pub(crate) struct EdgeLinkHandler<'a, W> {
     pub book: MetricsBook,
     /// Hands the metrics over to the poller.
     pub sender: MetricsSender<'a>,
-    /// The notes of the connection that is served, or of the last one.
+    /// One note for each answered request of the link being served or, between links, of the last one.
     notes: Served,
     rt: &'a W,
 }
 
 impl<'a, W> EdgeLinkHandler<'a, W> {
-    /// Creates the handler of one worker, without metrics. Fails only if out of memory.
+    /// Creates the handler of one worker, with no metrics yet. Fails only if out of memory.
     pub fn new(
         alloc: Global,
         rt: &'a W,

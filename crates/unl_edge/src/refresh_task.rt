@@ -6,18 +6,18 @@ use unl_edge_state::EdgeWriter;
 use unl_refresh::{MetricsReceiver, Poller};
 use unl_workers::PeriodicTask;
 
-/// Polls the upstream at each turn, publishes its replies, and sends it the metrics of the workers.
+/// In each turn, polls the upstream, publishes what the replies say, and sends the workers' metrics to the upstream.
 #[derive(Drop)]
 pub(crate) struct RefreshTask<'u, 'e, 'p, 'r, 'a, 'w, W: Wait, P> {
-    /// Makes the requests of each turn.
+    /// Makes the requests of each turn, and has the metrics that are not sent yet.
     pub poller: &'u mut Poller,
-    /// Publishes the replies.
+    /// Publishes what the replies say.
     pub writer: &'e mut EdgeWriter<'w, W>,
     /// The upstream server.
     pub peer: &'p mut P,
-    /// Receives the metrics of the workers.
+    /// Takes the metrics books of the workers from their queue.
     pub receiver: &'r mut MetricsReceiver<'a>,
-    /// The runtime, which `receiver` needs to take the metrics books of the workers from its queue.
+    /// The runtime, with which `receiver` waits while another thread is changing the queue.
     pub rt: &'a W,
 }
 
@@ -47,7 +47,8 @@ impl<'u, 'e, 'p, 'r, 'a, 'w, W: Wait, P: Peer> PeriodicTask
         × (after.receiver.ghost_name ≡ turn.receiver.ghost_name)
         × KeepsReceiver turn.receiver.now after.receiver.now };
 
-    /// Takes the metrics of the workers first, so that the requests of the turn send them.
+    /// Takes the metrics of the workers first, so that this turn can send them to the upstream. If memory runs out, the
+    /// turn ends early. That is not reported, and later turns are made as usual.
     fn turn(&mut self, alloc: Global) {
         self.poller.take_metrics(alloc, self.rt, self.receiver);
         let _ = self.poller.turn(alloc, self.writer, self.peer);

@@ -1,5 +1,6 @@
-//! One turn of a poller with a writer. Its contract also states that the writer's origin stays the same. The origin is
-//! the writer's publication and the opening board of that publication.
+//! Makes one turn of a poller with a writer, and proves that the writer's origin stays the same. The origin is the
+//! writer's publication and the opening board of that publication. The contract of `Poller::turn` says nothing of
+//! origins, since that call takes any `Installer`.
 ghost use Rattle.std.specs.Prelude.{◌≡◌, ◌≤◌, ◌+◌, OnOk, length};
 ghost use Rattle.unl_edge_state.specs.Writing.{installed_by};
 ghost use Rattle.unl_publication.specs.Looking.{SameOrigin};
@@ -17,7 +18,7 @@ use unl_edge_state::EdgeWriter;
 use unl_refresh::Poller;
 use unl_tokens::Book;
 
-/// What a writer knew before a turn. It exists only in contracts, so a call passes it as a type parameter.
+/// What a writer knew before a turn. This value exists only in contracts, so a call passes it by a type parameter.
 pub(crate) trait Root {
     ghost use Rattle.unl_core.specs.declared.board.Install.{Install};
     ghost use Rattle.unl_edge_state.specs.Editions.{BoardAt};
@@ -26,14 +27,14 @@ pub(crate) trait Root {
     ghost known: { Knowledge BoardAt Install };
 }
 
-/// If a call passes `Brand`, its proof chooses the value of `known`. The value here is only a placeholder.
+/// If a call passes `Brand`, the proof of that call chooses the value of `known`. The value here is only a placeholder.
 impl Root for Brand {
     ghost use Rattle.unl_publication.specs.Rule.{knows_nothing};
 
     ghost known = { knows_nothing };
 }
 
-/// A writer with the same origin as the knowledge `K.known`. This is an invariant, so each install preserves it.
+/// A writer with the same origin as the knowledge `K.known`. `origin` is an invariant, so each install preserves it.
 struct SameOriginWriter<'w, W: Wait, K: Root> {
     writer: EdgeWriter<'w, W>,
     root: PhantomData<K>,
@@ -68,10 +69,10 @@ impl<W: Wait, K: Root> Installer for SameOriginWriter<'_, W, K> {
     }
 }
 
-/// Makes one turn of the poller with a writer, and returns the writer.
+/// Makes one turn of the poller with a writer. Returns the writer, also on an error, with the result of the turn.
 ///
 /// # Errors
-/// `Memory` if out of memory. The turn ends then.
+/// `Memory` if out of memory. The turn ended early then.
 pub(crate) fn turn_by<'w, W: Wait, P: Peer>(
     alloc: Global,
     poller: &mut Poller,
@@ -96,7 +97,7 @@ pub(crate) fn turn_by<'w, W: Wait, P: Peer>(
     turn_from::<W, P, Brand>(alloc, poller, writer, peer)
 }
 
-/// As `turn_by`, where the caller passes what the writer knew as `K`.
+/// As `turn_by`, where the caller passes what the writer knew by the type parameter `K`.
 fn turn_from<'w, W: Wait, P: Peer, K: Root>(
     alloc: Global,
     poller: &mut Poller,

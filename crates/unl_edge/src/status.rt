@@ -1,4 +1,4 @@
-//! The exit code of the program.
+//! The exit code of the program, by the outcome of its command.
 ghost use Rattle.std.specs.Prelude.{◌≡◌};
 ghost use Rattle.unl_edge.specs.Status.{check_status, code_of, explain_status, follow_status, lines_status, load_status};
 ghost use Rattle.unl_edge.specs.Status.{row_status, serving_status, upstream_status, arguments_status};
@@ -13,13 +13,13 @@ use unl_upstream::{ServingEnd, UpstreamEnd};
 /// How the program ends.
 #[derive(Clone, Copy)]
 pub enum Status {
-    /// The command succeeded. For `check`: all tests passed.
+    /// The command succeeded. For `check` this means that all tests passed.
     Done,
-    /// A test of a check failed.
+    /// A test of the command `check` failed.
     TestFailed,
     /// The arguments name no command, are rejected by clap, or have a value outside its range.
     BadArguments,
-    /// The input, a line of it, or a row of a keeper is refused.
+    /// The input or a line of it is refused, or a row of an upstream's keeper is missing or refused.
     Refused,
     /// The input failed.
     ReadFault,
@@ -34,7 +34,7 @@ pub enum Status {
 }
 
 impl Status {
-    /// Returns the exit code, 0 to 8. The codes are chosen by this project.
+    /// Returns the exit code, 0 to 8. Which code a status has is chosen by this project.
     pub fn code(self) -> u8
         ensures { result ≡ code_of self }
     {
@@ -51,7 +51,7 @@ impl Status {
         }
     }
 
-    /// Returns the status for a command that processes the lines of the input.
+    /// Returns the status for the lines of the input, of the command `replay` or `upstream`.
     pub fn of_lines(end: Result<(), LinesFault>) -> Status
         ensures { result ≡ lines_status end }
     {
@@ -64,7 +64,7 @@ impl Status {
         }
     }
 
-    /// Returns the status for a check.
+    /// Returns the status for the command `check`.
     pub fn of_check(end: CheckEnd) -> Status
         ensures { result ≡ check_status end }
     {
@@ -78,7 +78,7 @@ impl Status {
         }
     }
 
-    /// Returns the status for an explanation.
+    /// Returns the status for the command `explain`.
     pub fn of_explanation(end: Result<(), ExplainFault>) -> Status
         ensures { result ≡ explain_status end }
     {
@@ -92,7 +92,7 @@ impl Status {
         }
     }
 
-    /// Returns the status for serving links.
+    /// Returns the status for serving links, by the command `edge` or `upstream`.
     pub fn of_serving(end: ServingEnd) -> Status
         ensures { result ≡ serving_status end }
     {
@@ -126,7 +126,8 @@ impl Status {
         }
     }
 
-    /// Returns the status for a refused row of a keeper. `written` is the result of printing which row it is.
+    /// Returns the status if a row of a keeper is missing or refused. `written` is the result of printing a line about
+    /// that row.
     pub fn of_row(written: Result<(), WriteLineFault>) -> Status
         ensures { result ≡ row_status written }
     {
@@ -150,7 +151,7 @@ impl Status {
         }
     }
 
-    /// Returns the status for bad arguments. `end` is the result of reporting them.
+    /// Returns the status for bad arguments. `end` says whether the line about them was printed.
     pub fn of_arguments(end: ArgumentsEnd) -> Status
         ensures { result ≡ arguments_status end }
     {

@@ -1,5 +1,6 @@
-//! The command `upstream`: creates an upstream and its keeper (the store of its commands), and runs the upstream. It is
-//! reopened on the keeper, takes the commands in the lines of the input, and then serves the links of a door.
+//! The command `upstream`: creates an upstream and its keeper (the store of its commands), and runs the upstream. The
+//! upstream first applies the commands that the keeper has stored, then takes the commands in the lines of the input,
+//! and then serves the links of a door.
 ghost use Rattle.std.specs.Prelude.{◌≡◌, IfOk};
 ghost use Rattle.unl_edge.specs.Scene.{ChangesForUpstream};
 ghost use Rattle.unl_edge.specs.Status.{IsCaused, upstream_status};
@@ -19,9 +20,9 @@ use unl_keeper::{KeepMaker, KeepRefusal};
 use unl_upstream::{Upstream, UpstreamEnd, run_reopened};
 use unl_words::{UpstreamArguments, own_book};
 
-/// Runs an upstream. Its boot number is the random word of one draw. The upstream is reopened on a keeper: the commands
-/// in the keeper's rows are applied. Then it takes the commands in the input's lines, and at last serves the links that
-/// come to its port, one after the other.
+/// Runs an upstream, and returns how the run ended. The boot number is the random word of one draw. First the upstream
+/// is reopened on a new keeper: the commands in the keeper's rows are applied. Then the upstream takes the commands in
+/// the input's lines, and finally it serves the links that come to its port, one after another.
 pub fn run_upstream<
     I: Source,
     O: Sink,
@@ -76,7 +77,7 @@ impl NewUpstream {
     }
 }
 
-/// Creates an upstream that has taken no command.
+/// Creates an upstream that has taken no command. Fails only if out of memory.
 fn begin(alloc: Global, boot: u64, words: &UpstreamArguments) -> Result<NewUpstream, Memory>
     requires { IsUpstream words.now }
     ensures { IfOk result (λ fresh. fresh ≡ opening boot words.now.secret words.now.environments

@@ -13,9 +13,9 @@ use unl_edge_state::{EdgeReader, EdgeWriter};
 use unl_refresh::MetricsReceiver;
 use unl_workers::WorkerSlot;
 
-/// Returns a worker slot for each reader. The reader learns all that the writer has published. Each slot has its own
-/// source of times and random words, split off from `draws`, and its own sender of metrics to `receiver`. The only
-/// error is out of memory.
+/// Returns a worker slot for each reader. Each reader first learns all installs that the writer has published.
+/// Each slot has its own source of times and random words, split off from `draws`, and its own sender of metrics to
+/// `receiver`. The only error is out of memory.
 pub(crate) fn worker_slots_of<'a, R: Draws + Drop, W: Wait>(
     alloc: Global,
     rt: &'a W,

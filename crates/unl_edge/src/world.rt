@@ -4,9 +4,8 @@ use std::sync::Wait;
 use unl_base::{Door, Draws, Pace, Peer, Sink, Source, Spawner};
 use unl_keeper::KeepMaker;
 
-/// The endpoints that the program uses: its input and output, the door whose links it serves, the peer that it polls,
-/// the draws for its answers, the pace of its turns, the spawner of its jobs, the maker of its keeper, and the runtime
-/// that it waits with.
+/// The endpoints that the program uses. A command uses some of them, and leaves the others unchanged. In contracts the
+/// value of this type is a `Scene`: the state of each endpoint but the runtime.
 #[derive(Drop)]
 pub struct World<
     I: Source,
@@ -25,17 +24,17 @@ pub struct World<
     pub output: O,
     /// The door whose links are served.
     pub door: D,
-    /// The server that is polled.
+    /// The connection to the server that is polled.
     pub peer: P,
-    /// The source of the time and the random word of each answer.
+    /// The source of the time and the random word of each answer, and of the random boot number of a board.
     pub draws: R,
-    /// Waits for the next turn (a poll of the server), and returns whether there is one.
+    /// Waits for each turn (a poll of the server) after the first, and says whether there is one.
     pub pace: T,
     /// Starts jobs in threads.
     pub spawner: S,
     /// Creates the keeper of an upstream: the append-only store of its commands.
     pub keep: Q,
-    /// The runtime, with which threads wait.
+    /// The runtime, with which threads wait for each other.
     pub rt: W,
 }
 

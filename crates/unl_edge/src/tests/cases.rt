@@ -1,4 +1,4 @@
-//! A run of the program over endpoints in memory.
+//! Runs of the program over endpoints in memory, and the comparison of how a run ended with how it must end.
 use crate::run::run;
 use crate::tests::outside::{AfterLinks, Events, Keeping, Script, TestDoor, TestMaker, TestPace};
 use crate::world::World;
@@ -22,10 +22,10 @@ pub(crate) struct Case {
     pub after_links: AfterLinks,
     /// What the upstream replies on each of its connections, in order. On further connections it replies nothing.
     pub upstream: &'static [&'static str],
-    /// The indices, from 0, of the calls to the upstream that fail.
+    /// The calls of the peer that fail. Its calls of `connect`, `read` and `write` are numbered together, from 0.
     pub failing_calls: &'static [u64],
-    /// One item for each poll of the upstream after the first. The poll starts when this number of answers was sent on
-    /// links.
+    /// One item for each poll of the upstream after the first. The poll starts when this number of answers was sent, on
+    /// all links together.
     pub turns: &'static [u64],
     /// How the keeper that stores the commands of an upstream fails.
     pub keeping: Keeping,
@@ -33,13 +33,13 @@ pub(crate) struct Case {
     pub code: u8,
     /// The bytes that are written to standard output.
     pub printed: &'static str,
-    /// The number of answers that links are sent.
+    /// The number of correct answers that are sent, on all links together. No other answer may be sent.
     pub answers: u64,
-    /// The number of links that are returned to the door after they are served.
+    /// The number of links that are given back to the door after they are served. An edge gives none back.
     pub returned: u64,
 }
 
-/// A case without arguments, input, links or replies.
+/// The values of the fields that a case leaves out: no input, links, replies, turns or failures; exit code 0.
 pub(crate) const CASE: Case = Case {
     name: "",
     arguments: "",
@@ -56,8 +56,8 @@ pub(crate) const CASE: Case = Case {
     returned: 0,
 };
 
-/// How a run ended: the exit code, what was printed, the number of correct answers sent on links, of wrong ones, and of
-/// links returned.
+/// How a run ended: the exit code, what was printed, and three counts: the correct answers that were sent on links, the
+/// wrong ones, and the links that were given back to the door.
 #[derive(Debug, Drop)]
 pub(crate) struct Ending {
     code: u8,
@@ -65,7 +65,7 @@ pub(crate) struct Ending {
     links: (u64, u64, u64),
 }
 
-/// Returns whether a run ended as its case says.
+/// Returns whether a run ended as its case says, without a wrong answer. Returns false if there is no ending.
 pub(crate) fn is_as_said(ending: &Option<Ending>, case: &Case) -> bool {
     match ending {
         Some(ending) => {
@@ -77,7 +77,7 @@ pub(crate) fn is_as_said(ending: &Option<Ending>, case: &Case) -> bool {
     }
 }
 
-/// Runs a case. Returns `None` if out of memory.
+/// Runs a case. Returns `None` if out of memory, or if what was printed isn't UTF-8.
 pub(crate) fn ran<W: Threads + Wait + Sync + Copy + Drop>(
     rt: W,
     alloc: Global,
@@ -94,7 +94,8 @@ pub(crate) fn ran<W: Threads + Wait + Sync + Copy + Drop>(
     })
 }
 
-/// Runs a case with this door and this pace. Returns the exit code and what was printed.
+/// Runs a case with this door and this pace. Returns the exit code and what was printed. Returns `None` if out of
+/// memory, or if what was printed isn't UTF-8.
 fn run_with<D: Door + Drop, T: Pace + Drop + Send, W: Threads + Wait + Sync + Copy + Drop>(
     rt: W,
     alloc: Global,
@@ -127,7 +128,7 @@ where
     Some((code, printed))
 }
 
-/// Splits a line at spaces.
+/// Splits a line at each space. Returns `None` if out of memory.
 fn words_of(alloc: Global, line: &str) -> Option<Vec<String>> {
     let mut words = Vec::new(alloc);
     for word in line.split(' ') {
@@ -136,7 +137,7 @@ fn words_of(alloc: Global, line: &str) -> Option<Vec<String>> {
     Some(words)
 }
 
-/// Returns the upstream of a case.
+/// Returns a peer that replies, and fails, as the case says. Returns `None` if out of memory.
 fn upstream_of(alloc: Global, case: &Case) -> Option<MemoryPeer> {
     let mut replies = Vec::new(alloc);
     for reply in case.upstream {

@@ -1,6 +1,6 @@
-//! Test doubles for the program's endpoints. Three of them share event counters: links (connections), a door (it accepts
-//! links) and a pace (it decides when a repeated job takes its next turn). A fourth creates failing keepers (stores of
-//! texts).
+//! Test doubles for the program's endpoints. Three of them count events in shared counters: links (connections), a door
+//! (which hands out links) and a pace (which decides when the server is polled again). A fourth creates keepers (stores
+//! of an upstream's commands) that fail.
 ghost use Rattle.std.specs.Prelude.{◌≡◌, ◌≤◌};
 
 use std::alloc::Global;
@@ -10,20 +10,21 @@ use unl_base::{Door, Failed, Link, Pace, Sink, Source};
 use unl_documents::List;
 use unl_keeper::{KeepFail, KeepMaker, KeepRefusal, MemoryKeeper};
 
-/// How often each of these happened in a run.
+/// How often each of these events happened in a run.
 #[derive(Drop)]
 pub(crate) struct Events {
     /// The pace was asked for its next turn, so the turn before has ended.
     turns: AtomicU64,
-    /// A link was sent its next answer, whole.
+    /// The next answer of a link's script was sent on that link, whole.
     answers: AtomicU64,
-    /// A link was sent something else.
+    /// Something else was sent on a link.
     wrong: AtomicU64,
     /// The door took back a link.
     returned: AtomicU64,
 }
 
 impl Events {
+    /// Creates counters that are all 0.
     pub(crate) fn new() -> Events {
         Events {
             turns: AtomicU64::new(0),
@@ -69,22 +70,23 @@ fn count_of(event: &AtomicU64) -> u64 {
 pub(crate) struct Arrival {
     /// The number of turns that must have ended.
     pub turns: u64,
-    /// The number of answers that links must have been sent.
+    /// The number of correct answers that must have been sent, on all links together.
     pub answers: u64,
     /// The bytes.
     pub bytes: &'static str,
 }
 
-/// What comes on a link, and the answers that it must be sent.
+/// What a client sends on a link, and the answers that must be sent to the client.
 #[derive(Clone, Copy)]
 pub(crate) struct Script {
-    /// What comes on the link, in order.
+    /// What the client sends, in order.
     pub arrivals: &'static [Arrival],
     /// The answers, in order.
     pub answers: &'static [&'static str],
 }
 
-/// A link that follows a script. A read fails if the turns and answers that it waits for don't happen.
+/// A link that follows a script. A read fails if the turns and answers that it waits for don't happen in time
+/// ([`Events::wait_for`]).
 #[derive(Drop)]
 pub(crate) struct TestLink<'a> {
     arrivals: &'static [Arrival],
@@ -157,7 +159,8 @@ impl Sink for TestLink<'_> {
 
     ghost other_parts = { λ link. no_other_parts };
 
-    /// Takes the whole piece. It counts as an answer if it is the next one of the script, and otherwise as wrong.
+    /// Takes all of `piece`. A piece that is exactly the next answer of the script is counted as an answer, and any
+    /// other piece as wrong.
     fn write(&mut self, piece: &[u8]) -> Result<usize, Failed> {
         match self.answers.get(self.sent) {
             Some(answer) if is_text(piece, answer) => {
@@ -183,13 +186,13 @@ impl Link for TestLink<'_> {
 /// What a door does after its last link.
 #[derive(Clone, Copy)]
 pub(crate) enum AfterLinks {
-    /// It closes, once this many turns have ended.
+    /// It closes once this many turns have ended. It fails if they don't end in time ([`Events::wait_for`]).
     Closes(u64),
     /// It fails.
     Fails,
 }
 
-/// A door whose links follow these scripts.
+/// A door that hands out one link for each of `scripts`, in order, and then does what `after` says.
 #[derive(Drop)]
 pub(crate) struct TestDoor<'a> {
     ports: Vec<u16>,
@@ -273,8 +276,9 @@ impl<'a> Door for TestDoor<'a> {
     ghost within = { λ door. door.in_order };
 }
 
-/// A pace with one turn for each item of `turns`. A turn starts once links were sent as many answers in all as its item
-/// says. Each call of `more`, including the first and the last, adds 1 to the ended turns.
+/// A pace with one turn for each item of `turns`. A turn starts once as many answers were sent as its item says, on all
+/// links together, or if [`Events::wait_for`] gives up. Each call of `more`, also the first and the last, adds 1 to the
+/// ended turns: the first call ends the first poll, which doesn't wait for the pace.
 #[derive(Drop)]
 pub(crate) struct TestPace<'a> {
     turns: &'static [u64],
@@ -282,6 +286,7 @@ pub(crate) struct TestPace<'a> {
 }
 
 impl<'a> TestPace<'a> {
+    /// Creates a pace with these turns.
     pub(crate) fn new(turns: &'static [u64], events: &'a Events) -> TestPace<'a> {
         TestPace { turns, events }
     }
@@ -308,14 +313,16 @@ impl Pace for TestPace<'_> {
 pub(crate) enum Keeping {
     /// Creating it fails.
     Unmade,
-    /// Its call of this number fails, counted from 0; if there is no such call, it works.
+    /// The call of this number fails. The keeper's calls of `open`, `put` and `read` are numbered together, from 0. If
+    /// there is no such call, none fails.
     FailsAt(u64),
 }
 
-/// A maker of keepers in memory. In contracts its fault count is always the maximum of `u64`, which can't increase, so
-/// `make` need not count its failures.
+/// A maker of keepers in memory. In contracts its fault count is always the maximum of `u64`. A saturated count always
+/// counts as risen, so `make` need not count its failures.
 #[derive(Drop)]
 pub(crate) struct TestMaker {
+    /// How the keepers that it creates fail.
     pub keeping: Keeping,
 }
 

@@ -1,8 +1,8 @@
-//! Runs of an edge, an upstream and a replica, with how each must end. A turn is one poll of the server.
+//! Runs of the commands `edge`, `upstream` and `follow`, with how each must end. A turn is one poll of the server.
 use crate::tests::cases::{CASE, Case, is_as_said, ran};
 use crate::tests::outside::{AfterLinks, Arrival, Keeping, Script};
 
-/// A request for the health.
+/// A request for the health of a server.
 const HEALTH: &str = "GET /internal-backstage/health HTTP/1.1\r\nHost: x\r\n\r\n";
 
 /// The answer to a request for the health.
@@ -11,7 +11,7 @@ const HEALTHY: &str = concat!(
     r#"{"status":"OK"}"#,
 );
 
-/// A request for the toggles that are on.
+/// A request for the toggles (features) that are on.
 const TOGGLES: &str = "GET /api/frontend HTTP/1.1\r\nHost: x\r\nAuthorization: *:dev.f\r\n\r\n";
 
 /// The answer if no toggle is on.
@@ -20,7 +20,7 @@ const NONE_IS_ON: &str = concat!(
     r#"{"toggles":[]}"#,
 );
 
-/// The answer if the toggle of feature `a` is on.
+/// The answer if only feature `a` is on.
 const A_IS_ON: &str = concat!(
     "HTTP/1.1 200 OK\r\nContent-Type: application/json\r\nContent-Length: 133\r\n\r\n",
     r#"{"toggles":[{"enabled":true,"impressionData":false,"name":"a","#,
@@ -37,7 +37,7 @@ const HEALTH_LINK: Script = Script {
     answers: &[HEALTHY],
 };
 
-/// A link that asks for the health once another link was answered.
+/// A link that asks for the health once an answer was sent on another link.
 const LATE_HEALTH_LINK: Script = Script {
     arrivals: &[Arrival {
         turns: 0,
@@ -74,7 +74,7 @@ const TOGGLES_LINK: Script = Script {
     answers: &[NONE_IS_ON, A_IS_ON],
 };
 
-/// An upstream's token book.
+/// An upstream's reply with its token book: one frontend token, for all projects.
 const BOOK: &str = concat!(
     "HTTP/1.1 200 OK\r\n\r\n",
     r#"{"tokens":[{"token":"*:dev.f","type":"frontend","projects":["*"]}]}"#,
@@ -152,11 +152,11 @@ fn edges(rt: HostRuntime) {
     }
 }
 
-/// A command to an upstream: it puts feature `a` into the environment `dev`.
+/// A command to an upstream: it puts feature `a`, which is on, into the environment `dev`.
 const PUT_A: &str =
     r#"{"command":"put-feature","environment":"dev","feature":{"name":"a","enabled":true}}"#;
 
-/// Runs of an upstream whose door or keeper fails.
+/// Runs of an upstream whose door or keeper fails. Where the keeper fails, no link is handed out.
 const UPSTREAMS: [Case; 4] = [
     Case {
         name: "the door of an upstream fails at the second link",
@@ -216,8 +216,8 @@ const A_IS_OFF_AT_6: &str = concat!(
     r#"{"after":5,"events":[{"type":"feature-updated","eventId":6,"feature":{"name":"a","enabled":false}}]}"#,
 );
 
-/// The requests to an upstream: a feature is put into the project A, the changes are asked for, the feature moves to B,
-/// and the changes after the first version are asked for.
+/// Requests to an upstream: a command puts feature `m` into project A, the whole state is asked for, a command moves
+/// `m` to project B, and the changes after the first version are asked for.
 const MOVE_M: &str = concat!(
     "POST /commands HTTP/1.1\r\nHost: x\r\nAuthorization: s\r\nContent-Length: 97\r\n\r\n",
     r#"{"command":"put-feature","environment":"dev","feature":{"name":"m","project":"A","enabled":true}}"#,
@@ -240,33 +240,34 @@ const NUMBER_2: &str = concat!(
     r#"{"number":2}"#,
 );
 
-/// The reply of the upstream, and of the edge that polls it, with the first version.
+/// The reply of the upstream, and of the edge that polls the upstream, with the whole first version: `m` is in project
+/// A.
 const M_IS_IN_A: &str = concat!(
     "HTTP/1.1 200 OK\r\nContent-Type: application/json\r\nContent-Length: 216\r\nETag: \"0000000000000000-1-0-1\"\r\n\r\n",
     r#"{"events":[{"eventId":1,"features":[{"dependencies":[],"enabled":true,"impressionData":false,"name":"m","#,
     r#""project":"A","stale":false,"strategies":[],"type":"release","variants":[]}],"segments":[],"type":"hydration"}]}"#,
 );
 
-/// An upstream's reply with the change to the second version, for a token that sees all projects.
+/// An upstream's reply with the change to the second version, for a token that sees all projects: `m` is in project B.
 const M_IS_IN_B: &str = concat!(
     "HTTP/1.1 200 OK\r\nContent-Type: application/json\r\nContent-Length: 215\r\nETag: \"0000000000000000-1-0-2\"\r\n\r\n",
     r#"{"after":1,"events":[{"eventId":2,"feature":{"dependencies":[],"enabled":true,"impressionData":false,"name":"m","#,
     r#""project":"B","stale":false,"strategies":[],"type":"release","variants":[]},"type":"feature-updated"}]}"#,
 );
 
-/// An edge's reply with the change to the second version, for a token that sees only the project A.
+/// An edge's reply with the change to the second version, for a token that sees only project A: `m` is removed.
 const M_IS_GONE: &str = concat!(
     "HTTP/1.1 200 OK\r\nContent-Type: application/json\r\nContent-Length: 93\r\nETag: \"0000000000000000-1-0-2\"\r\n\r\n",
     r#"{"after":1,"events":[{"eventId":2,"featureName":"m","project":"A","type":"feature-removed"}]}"#,
 );
 
-/// A token book with a token that sees only the project A.
+/// An upstream's reply with its token book: one client token, for project A only.
 const BOOK_OF_A: &str = concat!(
     "HTTP/1.1 200 OK\r\n\r\n",
     r#"{"tokens":[{"token":"A:dev.c","type":"client","projects":["A"]}]}"#,
 );
 
-/// A link that moves a feature at an upstream.
+/// A link of an upstream whose client moves feature `m` to another project.
 const MOVING_LINK: Script = Script {
     arrivals: &[Arrival {
         turns: 0,
@@ -276,7 +277,7 @@ const MOVING_LINK: Script = Script {
     answers: &[NUMBER_1, M_IS_IN_A, NUMBER_2, M_IS_IN_B],
 };
 
-/// A link that asks an edge for the changes, and for the later changes once the second turn has ended.
+/// A link that asks an edge for the whole state, and for the changes since then once the second turn has ended.
 const CHANGES_LINK: Script = Script {
     arrivals: &[
         Arrival {
@@ -296,8 +297,8 @@ const CHANGES_LINK: Script = Script {
     answers: &[M_IS_IN_A, M_IS_GONE],
 };
 
-/// Runs of replicas whose server follows a script; then runs of an upstream, of an edge that gets the upstream's
-/// replies, and of a replica that gets the edge's replies.
+/// Two runs of `follow` whose server gives fixed replies. Then runs of an upstream, of an edge that gets the upstream's
+/// replies, and of `follow` that gets the edge's replies.
 const FOLLOWS: [Case; 5] = [
     Case {
         name: "a replica takes a batch after an unchanged turn",

@@ -4,7 +4,7 @@ use Rattle.unl_edge.proofs.Working.{accepted_so, caused_so, polls_through}
 use Rattle.unl_refresh.specs.MetricsQueues.{Receiving}
 use Rattle.unl_edge.proofs.edge_service.serve_after.Goals as goal
 
--- the senders come back to the receiver that they hand to
+-- the senders have all parts that the receiver doesn't have
 pub accepted_in-requires-clause-parts : goal.accepted_in-requires-clause-parts
 accepted_in-requires-clause-parts g c =
     parts_back _ c.worker_slots_of.new.receiver c.serve_worker_slots-served.new.receiver _ c.serve_worker_slots-served.result
@@ -22,7 +22,7 @@ returns-in-Ok-clause-accepts g c =
     accepted_so c.serve_worker_slots-served.result c.accepted_in.result _ _ c.accepted_in.ensures.accepted
     c.serve_worker_slots-served.ensures.accepts
 
--- each turn is seen through the receiver
+-- the turns took the workers' books through this receiver, which had taken none before
 pub returns-in-Ok-clause-each_link_served_once : goal.returns-in-Ok-clause-each_link_served_once
 returns-in-Ok-clause-each_link_served_once g c =
     let polls = polls_through c.serve_worker_slots-served.result _ _ _ _ _ _ _ _ _ c.serve_worker_slots-served.ensures.polls

@@ -28,7 +28,7 @@ returns-in-Ok-clause-connects g c =
     (g.P.Peer.state after.peer.now).replies (g.P.Source.faults after.peer.now) = c.in-Ok.ensures.turns.keeps.3 _ _ (connects_nothing _ _) in
     search rules
 
--- and each turn is seen through them
+-- so each turn of the task is one of the poller, the writer, the peer and the receiver
 pub returns-in-Ok-clause-polls : goal.returns-in-Ok-clause-polls
 returns-in-Ok-clause-polls g c =
     let after = c.run_pool.new.turn in
@@ -47,7 +47,7 @@ returns-in-Ok-clause-polls g c =
     (λ t. t.poller.now) (λ x y turned. turned) in
     search rules
 
--- the receiver took books
+-- at most the intake of the receiver changed
 pub returns-in-Ok-clause-receiver : goal.returns-in-Ok-clause-receiver
 returns-in-Ok-clause-receiver g c =
     let after = c.run_pool.new.turn in

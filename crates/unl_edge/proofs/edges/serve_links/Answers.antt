@@ -45,7 +45,7 @@ pub returns-in-Err-clause-caused : goal.returns-in-Err-clause-caused
 returns-in-Err-clause-caused g c =
     let rose = once_err c.in-Ok.accepted.door c.in-Err.field-0 c.in-Err.is c.in-Ok.ensures.causes.door in search rules
 
--- it is closed
+-- the door was closed
 pub returns-in-Ok-door-clause-ends : goal.returns-in-Ok-door-clause-ends
 returns-in-Ok-door-clause-ends g c =
     let could : is_ok c.listen.result ≡ true = search rules in

@@ -1,5 +1,5 @@
 use Rattle.unl_edge.proofs.same_origin_writer.turn_by.Given as goal
 
--- the root is what the writer knows
+-- `K.known` is what the writer knows
 abbrev pub ghosts-turn_from : goal.ghosts-turn_from
 ghosts-turn_from g a = record { known = a.writer.known }

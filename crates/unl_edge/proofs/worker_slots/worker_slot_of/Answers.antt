@@ -5,13 +5,13 @@ use Rattle.unl_publication.specs.Seen.{reported_front, reported_list}
 use Rattle.unl_edge.proofs.Working.{begins_shared}
 use Rattle.unl_edge.proofs.worker_slots.worker_slot_of.Goals as goal
 
--- a new reader that learned sees one list
+-- a new reader that learned a list is steady
 pub new-requires : goal.new-requires
 new-requires g c =
     learns c.args.reader c.learn_all.new.self (reported_front c.tell.result) (reported_list c.tell.result) c.requires.new c.in_ok-learn_all.ensures.origin
     c.in_ok-learn_all.ensures.next c.in_ok-learn_all.ensures.past
 
--- and begins with it
+-- and the reader begins with that list
 pub returns-clause-learned : goal.returns-clause-learned
 returns-clause-learned g c =
     let begins : StartsReader c.args.writer.now.known.opening c.args.writer.now.known.installs c.learn_all.new.self =
