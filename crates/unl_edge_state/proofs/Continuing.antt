@@ -43,12 +43,12 @@ goes_on past past_before past_after now before after (inr took) h = (
   λ there. absurd (none_now past_after took.0 there),
 )
 
--- A look continues from where the reader was.
+-- If a reader's state continues from an earlier state, its state after a look does so too.
 pub continues : (past : Option (Knowledge BoardAt Install)) (now : Knowledge BoardAt Install) (before after : EdgeReader)
     → StaysOrTakes edited (past_of before) (continuation_of before) (past_of after) (continuation_of after) → ContinuesFrom past now before → ContinuesFrom past now after
 continues past now before after look h = goes_on past (past_of before) (past_of after) now (continuation_of before) (continuation_of after) look h
 
--- One look continues from where the reader was.
+-- The state after a look continues from the state before it.
 pub looked : (past past_after : Option (Knowledge BoardAt Install)) (now after : Knowledge BoardAt Install)
     → StaysOrTakes edited past now past_after after → Continued past now past_after after
 looked past past_after now after look =
@@ -63,7 +63,8 @@ empty_by (x ∷ xs) low = absurd (omega (arith, low))
 low_by : (m n : ℕ) → leb m n ≡ true → m ≤ n
 low_by m n is = grind (arith, nat_tests)
 
--- What a new reader continues from, once it has learned a list.
+-- Once a new reader has learned a list, it continues from the opening board and the installs of that list, and it knew no board but the
+-- opening board before.
 learned_list : (low : Bool) (list own after : Knowledge BoardAt Install) (past_after : Option (Knowledge BoardAt Install))
     → own.installs ≡ [] → own.before ≡ [] → own.opening ≡ list.opening → (low ≡ true → list.installs ≡ [])
     → after ≡ (if low then own else list) → past_after ≡ (if low then None else Some own)
@@ -82,7 +83,7 @@ learned_list false list own after past_after no_installs nothing same none after
       ∙ (values_first own no_installs nothing ∙ ap (λ (o : Option BoardAt). o ∷ []) same)),
 )
 
--- A new reader begins with the list that it learned.
+-- A new reader that has learned a list starts from that list (`StartsReader`).
 pub begins : (reader after : EdgeReader) (front : ℕ) (list : Knowledge BoardAt Install) → IsNewReader reader → SameOrigin list (continuation_of reader)
     → front ≡ length list.installs → seen_by after ≡ seen_by reader → continuation_of after ≡ continues_from front (Some list) (continuation_of reader)
     → past_of after ≡ remembers front (Some list) (past_of reader) (continuation_of reader) → StartsReader list.opening list.installs after
@@ -102,7 +103,7 @@ begins reader after front list new origin counted seen next_is past_is =
       seen_none = ap (λ (k : Knowledge BoardAt Install). k.installs) seen_own ∙ new.installs;
     }
 
--- The same, from a report that has a list.
+-- As `begins`, for a list from a report.
 pub begins_told : (told : Option (Knowledge BoardAt Install)) (front : ℕ) (reader after : EdgeReader) → is_some told ≡ true
     → IfSome told (λ list. SameOrigin list (continuation_of reader))
     → ((list : Knowledge BoardAt Install) → told ≡ Some list → front ≡ length list.installs) → seen_by after ≡ seen_by reader
@@ -112,7 +113,7 @@ begins_told None front reader after there origin counted seen next_is past_is ne
 begins_told (Some list) front reader after there origin counted seen next_is past_is new =
     (list, refl, begins reader after front list new origin (counted list refl) seen next_is past_is)
 
--- The number of installs in a report is that of its list.
+-- The number of installs that a report states is the length of its list.
 pub counted_by : {X : Type 0} (look : X → Knowledge BoardAt Install) (seat : Option X) (front : ℕ)
     → ∥ IfSome seat (λ (x : X). length (look x).installs ≡ front) ∥₁ → (list : Knowledge BoardAt Install) → option_map look seat ≡ Some list
     → front ≡ length list.installs
@@ -122,9 +123,10 @@ counted_by look (Some x) front counted list is =
     let same : look x ≡ list = cc in
     sym (nat_from (length (look x).installs) front counted) ∙ ap (λ (k : Knowledge BoardAt Install). length k.installs) same
 
--- ---- what such a reader answers from
+-- ---- the boards that a new reader answers from after it learned a list
 
--- What it has seen.
+-- What such a reader has seen has the opening board `edition`, and starts with `installs` if it is at least as long. No board but the
+-- opening board was known before the reader continued from a learned list.
 abbrev Sees : Option BoardAt → List Install → Knowledge BoardAt Install → Type 0
 Sees edition installs seen =
     (seen.opening ≡ edition) × ((seen.before ≡ []) ⊎ (seen.before ≡ edition ∷ []))
@@ -161,7 +163,7 @@ continued_from : (edition : Option BoardAt) (seen : Knowledge BoardAt Install) �
 continued_from None seen start = tt
 continued_from (Some opening) seen start = start
 
--- A prefix of a list that starts with these installs.
+-- If a list starts with `installs`, so does each prefix of it that is at least as long as `installs`.
 prefix_after : (installs rest whole : List Install) (front : ℕ) → whole ≡ installs ++ rest → length installs ≤ front
     → take front whole ≡ installs ++ take (front - length installs) rest
 prefix_after installs rest whole front is low =
@@ -182,7 +184,7 @@ after_list (Some opening) installs seen front board h low is =
       here ∙ ap (board_after opening.board) shape,
     )
 
--- A reader that began with these installs, and has only looked since.
+-- A reader that started from these installs and has only looked since meets `AnswersAfter`.
 pub answers_after : (edition : Option BoardAt) (installs : List Install) (reader later : EdgeReader) → StartsReader edition installs reader
     → ContinuesFrom (past_of reader) (continuation_of reader) later → AnswersAfter edition installs later
 answers_after edition installs reader later start h =

@@ -47,7 +47,7 @@ fronts_go_on board list (suc j) zero slot orderly up = absurd (omega (arith, up)
 fronts_go_on board [] (suc j) (suc k) slot orderly up = not_below_itself (snapshot_at board.slots slot)
 fronts_go_on board (what ∷ more) (suc j) (suc k) slot orderly up = fronts_go_on (installed what board) more j k slot orderly.1 (omega (arith, up))
 
--- ---- one install more
+-- ---- an orderly list with one more install
 
 pub orderly_more : (board : Board) (list : List Install) (what : Install) → IsOrderly board list → MayComeNext (board_after board list) what → IsOrderly board (list ++ what ∷ [])
 orderly_more board [] what orderly goes = (goes, tt)

@@ -1,4 +1,4 @@
--- Readers of an orderly publication that never continued from a learned list, or only from the opening board.
+-- Readers of an orderly publication that never continued from a learned list, or only when they knew no board but the opening board.
 use Rattle.std.proofs.Common.{◌≡◌, ℕ, ◌⊎◌, inl, inr, List, [], ◌∷◌, fold, length, Bool, true, false, leb, Option, Some, None, refl, sym, ap, ◌∙◌, subst, unwrap_or, All}
 use Rattle.std.specs.Prelude.{if◌then◌else◌}
 use mathlib.Core.Logic.{∥∥₁_map, ∥∥₁_map₂}
@@ -21,7 +21,7 @@ use Rattle.unl_publication.specs.Meaning.{before_of, known, values}
 use Rattle.unl_publication.specs.Rule.{knows_nothing, knows_opening}
 use Rattle.unl_publication.specs.Seen.{next, past, seen}
 
--- ---- what a learned list and a look keep
+-- ---- `ReadsOneList` after learning and after a look
 
 alone : (past : Option (Knowledge BoardAt Install)) (now : Knowledge BoardAt Install) → past ≡ None → is_orderly now ≡ true
     → (now.before ≡ []) ⊎ (now.before ≡ now.opening ∷ []) → ReadsOneList past now
@@ -44,7 +44,7 @@ values_first now no_installs nothing =
 is_orderly_by : (one two : Knowledge BoardAt Install) → one.opening ≡ two.opening → is_orderly two ≡ true → is_orderly one ≡ true
 is_orderly_by one two same is = ap (λ (o : Option BoardAt). unwrap_or (option_map (λ (b : BoardAt). b.orderly) o) false) same ∙ is
 
--- A new reader that learned a list reads one list, by what it knew and the list that it learned.
+-- `ReadsOneList` holds after a new reader learned from a report, which may have a list or not.
 pub learned : (low : Bool) (list : Option (Knowledge BoardAt Install)) (now after : Knowledge BoardAt Install) (past_after : Option (Knowledge BoardAt Install))
     → is_orderly now ≡ true → now.installs ≡ [] → now.before ≡ [] → after.opening ≡ now.opening
     → after ≡ (if low then now else unwrap_or list now) → past_after ≡ (if low then None else unwrap_or (option_map (λ _. Some now) list) None)
@@ -61,7 +61,7 @@ learned false (Some list) now after past_after orderly no_installs nothing same 
       next = inr (values_first now no_installs nothing ∙ ap (λ (o : Option BoardAt). o ∷ []) (sym same));
     })
 
--- A new reader that learned a list is steady.
+-- A new reader is steady after it learned from a report.
 pub learns : (reader after : EdgeReader) (front : ℕ) (list : Option (Knowledge BoardAt Install)) → IsNewReader reader → SameOrigin (continuation_of after) (continuation_of reader)
     → continuation_of after ≡ continues_from front list (continuation_of reader) → past_of after ≡ remembers front list (past_of reader) (continuation_of reader) → IsSteady after
 learns reader after front list new origin next_is past_is =
@@ -73,7 +73,7 @@ starts : (before given : List (Option BoardAt)) (opening same : Option BoardAt) 
 starts before given opening same is opens (inl none) = inl (is ∙ none)
 starts before given opening same is opens (inr one) = inr (is ∙ one ∙ ap (λ (o : Option BoardAt). o ∷ []) (sym opens))
 
--- After a look, a reader of one list still is one.
+-- `ReadsOneList` still holds after a look.
 pub looks : (past past_after : Option (Knowledge BoardAt Install)) (now after : Knowledge BoardAt Install) → StaysOrTakes edited past now past_after after
     → ReadsOneList past now → ReadsOneList past_after after
 looks past past_after now after (inl same) h =
@@ -83,9 +83,9 @@ looks past past_after now after (inr took) h =
     alone past_after after took.0 (is_orderly_by after now opening h.orderly)
     (starts after.before (before_of edited past now) after.opening now.opening (ap (λ (k : Knowledge BoardAt Install). k.before) took.1.same) opening h.next)
 
--- ---- the clause of a look
+-- ---- the effect of a look on a desk
 
--- The reader looked and took a list.
+-- The desk took a list, because the reader inside it looked and took the list.
 pub took_left : (past_old past_seat late : Option (Knowledge BoardAt Install)) (old now after list : Knowledge BoardAt Install) → past_old ≡ past_seat → old ≡ now
     → late ≡ None → after ≡ list → Takes edited past_seat now list → StaysOrTakes edited past_old old late after
 took_left past_old past_seat late old now after list past_is old_is none after_is takes =
@@ -101,7 +101,7 @@ took_back past_old past_seat late old now after past_is old_is kept =
     subst (λ (k : Knowledge BoardAt Install). StaysOrTakes edited past_seat k late after) (sym old_is) kept in
     subst (λ (p : Option (Knowledge BoardAt Install)). StaysOrTakes edited p old late after) (sym past_is) one
 
--- ---- what such a reader sees
+-- ---- what a steady reader sees
 
 seen_at : {T P : Type 0} {c : counted.Ghosts T Install BoardAt} {a : absorb.Ghosts T Install BoardAt} (seat : Option (Reader T Install P BoardAt c a))
     → unwrap_or (option_map seen seat) knows_nothing ≡ known (option_and_then past seat) (unwrap_or (option_map next seat) knows_nothing)
@@ -131,7 +131,7 @@ boards_in_order reader h j k slot first later up first_is later_is =
     let b = opened (seen_by reader).opening (orderly_seen reader h) in
     readers_in_order reader b.0 j k slot first later b.1 (orderly_seen reader h) (inl (continued reader b.0 h b.1)) up first_is later_is
 
--- Such a reader sees one orderly list.
+-- A steady reader sees one orderly list, and boards on which versions never get older.
 pub sees_in_order : (reader : EdgeReader) → ∥ IsSteady reader ∥₁ → SeesInOrder reader
 sees_in_order reader h = record {
   list = ∥∥₁_map₂ (reader_allowed reader) h (λ allowed steady. ordered_known (seen_by reader).opening (seen_by reader).installs allowed (orderly_seen reader steady));
@@ -141,7 +141,7 @@ sees_in_order reader h = record {
 
 -- ---- new readers
 
--- A reader that `begin_orderly` makes is a new reader.
+-- A reader that `begin_orderly` creates is a new reader.
 new_from : (begun : Knowledge BoardAt Install) (table : ℕ) (board : Board) (reader : EdgeReader) → begun ≡ knows_opening table (orderly_opening board)
     → HasBegun begun reader → IsNewReader reader
 new_from begun table board reader is h =

@@ -97,7 +97,7 @@ was_here : (p : Bool) (x : Option BoardAt) (board : Board) → option_map (λ (e
 was_here true x board is = refl
 was_here false x board is = absurd cc
 
--- The board at a front is the opening board after a prefix of the list.
+-- If `IsOfList` is true of front `k`, the board at `k` is the opening board after the first `k` installs of the list.
 board_is : (known : Knowledge BoardAt Install) (opening : BoardAt) (k : ℕ) → known.opening ≡ Some opening → IsOfList opening known k → k ≤ length known.installs
     → board_of known k ≡ Some (board_after opening.board (take k known.installs))
 board_is known opening k is (inl start) low = boards_are known opening k is start low
@@ -121,7 +121,7 @@ of_list_later opening known j k (inr past) up = inr (omega (arith, past, up))
 pub same_board : (one two : Board) (known : Option Board) → known ≡ Some one → known ≡ Some two → two ≡ one
 same_board one two known is also = let both : Some two ≡ Some one = sym also ∙ is in cc
 
--- ---- the order of versions does not depend on its proof
+-- ---- the order of versions follows from the mere existence of a proof of it
 
 pub below_from : (old new : Option EnvVersion) → ∥ IsNotBelow old new ∥₁ → IsNotBelow old new
 below_from None new h = tt
@@ -146,7 +146,7 @@ in_order known opening j k slot is orderly up allowed =
     subst (λ (o : Option BoardAt). IfSome o (λ (b : BoardAt). IsOrderly b.board known.installs)) is (ordered_known known.opening known.installs allowed orderly) in
     fronts_go_on opening.board known.installs j k slot list up
 
--- Of two boards that a reader knows of its list, the one at the larger front has no older version.
+-- Of two boards that a reader knows, the one at the larger front has no older version, if the other is of the reader's list (`IsOfList`).
 pub readers_in_order : (reader : EdgeReader) (opening : BoardAt) (j k slot : ℕ) (first later : Board) → (seen_by reader).opening ≡ Some opening
     → is_orderly (seen_by reader) ≡ true → IsOfList opening (seen_by reader) j → j ≤ k → board_of (seen_by reader) j ≡ Some first
     → board_of (seen_by reader) k ≡ Some later → IsNotBelow (snapshot_at first.slots slot) (snapshot_at later.slots slot)

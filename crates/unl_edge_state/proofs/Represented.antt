@@ -22,19 +22,19 @@ use Rattle.unl_edge_state.specs.Writing.{Stays, Writing, writer_after_batch, ins
 use Rattle.unl_edge_state.proofs.Boards.{boards_are}
 use Rattle.unl_publication.specs.declared.knowledge.Knowledge.{Knowledge}
 
--- If the slot always had revisions of the line, it has one on the last board.
+-- If each version that the slot has had is a revision of the line, so is its version on the last board.
 last_represented : (line : List Era) (sees : Sees) (slot : ℕ) (board : Board) (list : List Install) → AlwaysRepresentedFrom line sees slot board list
     → SlotRepresented line sees slot (board_after board list)
 last_represented line sees slot board [] represented = represented
 last_represented line sees slot board (what ∷ more) represented = last_represented line sees slot (installed what board) more represented.1
 
--- After one more install the slot still always had revisions of the line, if its version on the new board is one.
+-- `AlwaysRepresentedFrom` still holds after one more install, if the slot's version on the new board is a revision of the line.
 represented_more : (line : List Era) (sees : Sees) (slot : ℕ) (board : Board) (list : List Install) (what : Install) → AlwaysRepresentedFrom line sees slot board list
     → SlotRepresented line sees slot (installed what (board_after board list)) → AlwaysRepresentedFrom line sees slot board (list ++ what ∷ [])
 represented_more line sees slot board [] what represented new = (represented, new)
 represented_more line sees slot board (first ∷ more) what represented new = (represented.0, represented_more line sees slot (installed first board) more what represented.1 new)
 
--- After a slot takes a revision of the line, its version is a revision of the line. The slot may not exist.
+-- If the slot exists and takes a revision of the line, its version is a revision of the line.
 taken_represented : (line : List Era) (sees : Sees) (slots : List Slot) (slot : ℕ) (v : EnvVersion) → RepresentsLine line sees v → IfSome (snapshot_at (taking slot v slots) slot) (RepresentsLine line sees)
 taken_represented line sees [] slot v represents = tt
 taken_represented line sees (s ∷ slots) zero v represents = represents
@@ -51,7 +51,7 @@ known_more line sees slot None list v represented represents = tt
 known_more line sees slot (Some opening) list v represented represents =
     represented_more line sees slot opening.board list (Env slot v) represented (taken_represented line sees (board_after opening.board list).slots slot v represents)
 
--- The slot always had revisions of the line after a call that published a batch sent from the line, or published nothing.
+-- `AlwaysRepresented` still holds after a call that published a batch sent from the line, or failed and published nothing.
 pub batch_represented : {E : Type 0} (r : Result ℕ E) (w new : Writing) (slot : ℕ) (batch : Batch) → (place_of (installed_by w) slot).version ≡ snapshot_at (board_known w.known).slots slot
     → verdict_of (place_of (installed_by w) slot) batch ≡ Apply → OnOk r (new ≡ record (writer_after_batch slot batch w) { closed = new.closed }) → OnErr r (Stays w new)
     → (line : List Era) (sees : Sees) → IsLine line → AlwaysRepresented line sees slot w.known → IsSent line sees batch → AlwaysRepresented line sees slot new.known

@@ -37,7 +37,7 @@ publisher_send lifetime wait shared publishing =
     (ruled.ghosts Edition.the_row Install.the_row Edition.the_row counted.ghosts ruled.no_dict absorb.ghosts ruled.no_dict ruled.no_dict))
     (search (sendable, crosses) depth 20, (search (sendable, crosses) depth 20, tt))
 
--- An edge's writer is `Send` if, in addition, its places are.
+-- An edge's writer is `Send` if the writer of its publication and its places are `Send` and its `Wait` is `Sync`.
 pub edge_writer_send : (lifetime : NamedLft) (wait : RattleType) → IsSync wait → IsSend publishing_type → IsSend Place.the_row
     → IsSend (writer_type lifetime wait)
 edge_writer_send lifetime wait shared publishing place =

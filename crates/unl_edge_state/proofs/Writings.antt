@@ -68,7 +68,7 @@ pub place_is : (known : Knowledge BoardAt Install) (places : List Place) (closed
 place_is known places closed slot p w same low is =
     ap (λ (x : Writing). place_of (installed_by x) slot) (sym same) ∙ ap (λ (o : Option Place). unwrap_or o empty_place) (slice_get-get_or places slot p low) ∙ sym is
 
--- A writer whose place at a slot is set to held is the writer after the slot is held.
+-- Setting the place of a slot to held results in `writer_after_hold`.
 pub hold_is : (known : Knowledge BoardAt Install) (places : List Place) (closed : Bool) (slot : ℕ) (p : Place) (w : Writing)
     → record { known = known; places = places; closed = closed } ≡ w → slot < length places → p ≡ get_or places slot p
     → record { known = known; places = set places slot (record { version = p.version; held = true }); closed = closed } ≡ writer_after_hold slot w
@@ -81,7 +81,7 @@ hold_is known places closed slot p w same low is =
     writing : Knowledge BoardAt Install → List Place → Bool → Writing
     writing k ps c = record { known = k; places = ps; closed = c }
 
--- A writer that published the next version at a slot is the writer after the batch.
+-- Publishing the next version at a slot, which is then not held, results in `writer_after_batch`.
 pub batch_is : {E : Type 0} (r : Result ℕ E) (old new w : Writing) (slot : ℕ) (batch : Batch) (p : Place) (v shown : EnvVersion) → old ≡ w
     → place_of (installed_by w) slot ≡ p → v ≡ next_version p batch → shown ≡ v → OnOk r (new ≡ record (with_version slot shown false old) { closed = new.closed })
     → OnOk r (new ≡ record (writer_after_batch slot batch w) { closed = new.closed })
@@ -92,7 +92,7 @@ batch_is (Ok front) old new w slot batch p v shown same here next shown_is publi
 
 -- ---- the writer as an installer
 
--- A writer that published a batch has installed it.
+-- If a writer published a batch, its state as an `Installer` is the one after the batch.
 pub batch_installed : (w new : Writing) (slot : ℕ) (batch : Batch) → is_some w.known.opening ≡ true → new ≡ record (writer_after_batch slot batch w) { closed = new.closed }
     → installed_by new ≡ after_install slot batch (installed_by w)
 batch_installed w new slot batch begun is =
@@ -101,7 +101,7 @@ batch_installed w new slot batch begun is =
     let book : (board_known (with_installs (Env slot v ∷ []) w.known)).book ≡ (board_known w.known).book = ap (λ (b : Board). b.book) (known_more w.known (Env slot v) begun) in
     ap installed_by is ∙ (λ i. record { places = slice_set w.places slot (record { version = Some v; held = false }); front = front i; book = book i })
 
--- A writer that published a token book has installed it.
+-- If a writer published a token book, its state as an `Installer` has that book and a front that is larger by 1.
 pub book_installed : (w new : Writing) (tokens : List Token) → is_some w.known.opening ≡ true → new ≡ record (with_install (Tokens tokens) w) { closed = new.closed }
     → installed_by new ≡ record { places = w.places; front = length w.known.installs + 1; book = tokens }
 book_installed w new tokens begun is =
@@ -109,7 +109,7 @@ book_installed w new tokens begun is =
     let book : (board_known (with_installs (Tokens tokens ∷ []) w.known)).book ≡ tokens = ap (λ (b : Board). b.book) (known_more w.known (Tokens tokens) begun) in
     ap installed_by is ∙ (λ i. record { places = w.places; front = front i; book = book i })
 
--- The same for a call that may fail.
+-- As `batch_installed`, for a call that may fail.
 pub batch_result_installed : {E : Type 0} (r : Result ℕ E) (w new : Writing) (slot : ℕ) (batch : Batch) → is_some w.known.opening ≡ true
     → OnOk r (new ≡ record (writer_after_batch slot batch w) { closed = new.closed }) → OnOk r (installed_by new ≡ after_install slot batch (installed_by w))
 batch_result_installed (Err e) w new slot batch begun published = tt
@@ -117,7 +117,7 @@ batch_result_installed (Ok front) w new slot batch begun published = batch_insta
 
 -- ---- orderly lists
 
--- The list stays orderly if a batch that applies was published, or nothing was.
+-- The list stays orderly if a batch that applies was published, or if the call failed.
 pub batch_orderly : {E : Type 0} (r : Result ℕ E) (w new : Writing) (slot : ℕ) (batch : Batch) → (place_of (installed_by w) slot).version ≡ snapshot_at (board_known w.known).slots slot
     → verdict_of (place_of (installed_by w) slot) batch ≡ Apply → OnOk r (new ≡ record (writer_after_batch slot batch w) { closed = new.closed }) → OnErr r (Stays w new)
     → KnowsOrderly w.known → KnowsOrderly new.known
@@ -148,7 +148,7 @@ places_led : (opening : Option BoardAt) (list : List Install) (places : List Pla
 places_led None list places represents = tt
 places_led (Some o) list places represents = represents
 
--- What was published led to what is installed.
+-- The published installs lead from the opening board to the writer's places and token book (`LeadsTo`).
 pub leads_to : (w : Writing) → IsWriting w.known w.places → LeadsTo w.known.opening w.known.installs (installed_by w)
 leads_to w h = record {
   front = refl;

@@ -1,6 +1,6 @@
--- The types of the readers and writers of editions, and of the readers and writers inside them. The inner ones are of `left_right`, the
--- crate that shares a value between a writer and several readers. Contracts use the types to state that values of these types can be
--- sent to another thread. An edition is a board, the number of installs that led to it, and whether its publication is orderly.
+-- The types of the readers and writers of editions, and of the `left_right` readers and writers inside them. An edition is a board, the
+-- number of installs that led to it, and whether its publication is orderly. `left_right` is the crate that shares a value between a
+-- writer and several readers. Contracts use the types to state that values of these types can be sent to another thread.
 use denote.RattleType.{RattleType}
 use denote.Ref.{NamedLft}
 use Rattle.left_right.specs.contracts.reader.Reader as Seat

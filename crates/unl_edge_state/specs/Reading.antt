@@ -77,7 +77,7 @@ pub record StartsReader (edition : Option BoardAt) (installs : List Install) (re
   pub seen_none : (seen_by reader).installs ≡ []
 
 -- The relation `Continued` from an earlier state of the reader, in which `past_of` was `past` and `continuation_of` was `now`, to the
--- present state: the list of installs now starts with the earlier list. Looks preserve this relation.
+-- present state: the present list of installs starts with the earlier list. Looks preserve this relation.
 abbrev pub ContinuesFrom : Option (Knowledge BoardAt Install) → Knowledge BoardAt Install → EdgeReader → Type 0
 ContinuesFrom past now reader = Continued past now (past_of reader) (continuation_of reader)
 
@@ -113,16 +113,16 @@ pub record IsNewReader (reader : EdgeReader) : Type 0 where
   pub installs : (continuation_of reader).installs ≡ []
   pub before : (continuation_of reader).before ≡ []
 
--- A reader of an orderly publication never continued from a learned list, or only when it knew no board but the opening board. The
--- field `seen` says so of the time before the reader's last look, the field `next` of the time up to now. The opening board is the same
--- at both times. `past` is `past_of` the reader, and `now` is `continuation_of` the reader.
+-- The publication is orderly, and the reader never continued from a learned list, or only when it knew no board but the opening board.
+-- The field `seen` says so of the time before the reader's last look, the field `next` of the time up to now. The opening board is the
+-- same at both times. `past` is `past_of` the reader, and `now` is `continuation_of` the reader.
 pub record ReadsOneList (past : Option (Knowledge BoardAt Install)) (now : Knowledge BoardAt Install) : Type 0 where
   pub orderly : is_orderly now ≡ true
   pub opening : (known past now).opening ≡ now.opening
   pub seen : ((known past now).before ≡ []) ⊎ ((known past now).before ≡ now.opening ∷ [])
   pub next : (before_of edited past now ≡ []) ⊎ (before_of edited past now ≡ now.opening ∷ [])
 
--- The publication is orderly, and the reader never continued from a learned list, or only when it knew no board but the opening board.
+-- `ReadsOneList` is true of the present state of the reader.
 abbrev pub IsSteady : EdgeReader → Type 0
 IsSteady reader = ReadsOneList (past_of reader) (continuation_of reader)
 

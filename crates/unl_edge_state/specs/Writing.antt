@@ -21,7 +21,7 @@ pub record Writing : Type 0 where
   pub closed : Bool
 
 -- The invariant of a writer: its opening board is known, and each place has the version of its slot on the published board. The board's
--- slots (at most eight, each for another environment) and the places are valid.
+-- slots (at most eight, each for a different environment) and the places are valid.
 pub record IsWriting (known : Knowledge BoardAt Install) (places : List Place) : Type 0 where
   pub begun : is_some known.opening ≡ true
   pub represents : PlacesMatch (board_known known) places
@@ -38,7 +38,7 @@ pub record LeadsTo (edition : Option BoardAt) (installs : List Install) (install
   pub book : IfSome edition (λ opening. installed.book ≡ (board_after opening.board installs).book)
   pub places : IfSome edition (λ opening. PlacesMatch (board_after opening.board installs) installed.places)
 
--- The writer after an install is published that changes no place.
+-- The writer after it publishes an install that changes no place.
 abbrev pub with_install : Install → Writing → Writing
 with_install what w = record w { known = with_installs (what ∷ []) w.known }
 
@@ -64,7 +64,7 @@ abbrev pub writer_after_hold : ℕ → Writing → Writing
 writer_after_hold slot w =
     record w { places = slice_set w.places slot (record { version = (place_of (installed_by w) slot).version; held = true }) }
 
--- Nothing was published and no place changed. Only `closed` may have changed: every later publication may fail from now on.
+-- Nothing was published and no place changed. Only `closed`, whether every later publication fails, may have changed.
 abbrev pub Stays : Writing → Writing → Type 0
 Stays old new = new ≡ record old { closed = new.closed }
 

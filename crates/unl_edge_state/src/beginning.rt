@@ -18,8 +18,8 @@ use unl_documents::{List, Memory, Text, TryClone};
 use unl_publication::{Ruled, Writer, new_reader};
 
 /// Creates a writer with the opening board `board`, and `readers` readers that know only this board. The writer takes
-/// any install, and waits for readers with `rt`. There is also room for `readers` lists that the writer has reported and
-/// no reader has learned yet.
+/// any install, and waits for readers with `rt`. There is also room for `readers` lists that the writer has reported
+/// and no reader has learned yet.
 ///
 /// # Errors
 ///
@@ -43,8 +43,8 @@ pub fn begin<'a, W: Wait>(
     begin_with(rt, alloc, board, readers, false)
 }
 
-/// As `begin`, but the publication is orderly: each version that is installed must result from the slot's version on the
-/// published board, if there is one, by one batch that applies.
+/// As `begin`, but the publication is orderly: each version that is installed must result from the slot's version on
+/// the published board, if there is one, by one batch that applies.
 ///
 /// # Errors
 ///

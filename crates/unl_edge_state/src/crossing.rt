@@ -1,8 +1,8 @@
 //! Proofs that the reader and the writer of the edge's published boards can be sent to another thread. One proof search
-//! over all types that a board consists of times out, so the proof has steps. The first is for editions (an edition is a
-//! board, the number of installs that led to it, and whether its publication is orderly) and for installs. The next is
-//! for the readers and writers of editions in `left_right`, the crate that shares a value between a writer and several
-//! readers. Then follow the writer of `unl_publication`, and the reader and the writer of the edge.
+//! over all types that a board consists of times out, so the proof has steps. The first is for editions (an edition is
+//! a board, the number of installs that led to it, and whether its publication is orderly) and for installs. The next
+//! is for the readers and writers of editions in `left_right`, the crate that shares a value between a writer and
+//! several readers. Then follow the writer of `unl_publication`, and the reader and the writer of the edge.
 ghost use denote.Ref.{NamedLft};
 ghost use Rattle.std.specs.Thread.{IsSend, IsSync};
 ghost use Rattle.unl_core.specs.contracts.board.Install as InstallType;

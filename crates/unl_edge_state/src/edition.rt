@@ -34,8 +34,9 @@ impl Model for Edition {
 }
 
 impl Edition {
-    /// Creates the opening edition, before any install. In an orderly publication each version that is installed results
-    /// from the slot's current version, if there is one, by one batch that applies; otherwise any install may come.
+    /// Creates the opening edition, before any install. In an orderly publication each version that is installed
+    /// results from the slot's current version, if there is one, by one batch that applies. If `orderly` is false, any
+    /// install may come.
     pub fn new(board: Board, orderly: bool) -> Edition
         requires { AreSlots board.slots }
         ensures { result ≡ opening_of orderly board }

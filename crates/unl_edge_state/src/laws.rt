@@ -51,12 +51,13 @@ pub fn steady_readers_see_in_order()
     ensures { (reader : EdgeReader) → IsSteady reader → SeesInOrder reader }
 {}
 
-/// `line` is a list of histories of an environment, `sees` says which projects are visible, and `known` is what a reader
-/// knows. `SlotRepresented` is true of a board if the slot has no version, or the version has the state of a revision of
-/// the history of its epoch in `line` and the latest changes that led to that state, both without the features of
-/// projects that aren't visible. Suppose that `SlotRepresented` is true of the opening board and of the board after each
-/// known install, and that the reader never continued from a learned list, or only when it knew no board but the opening
-/// board. Then `SlotRepresented` is true of the board that is known at each front up to the number of known installs.
+/// `line` is a list of histories of an environment, `sees` says which projects are visible, and `known` is what a
+/// reader knows. `SlotRepresented` is true of a board if the slot has no version, or the version has the state of a
+/// revision of the history of its epoch in `line` and the latest changes that led to that state, both without the
+/// features of projects that aren't visible. Suppose that `SlotRepresented` is true of the opening board and of the
+/// board after each known install, and that the reader never continued from a learned list, or only when it knew no
+/// board but the opening board. Then `SlotRepresented` is true of the board that is known at each front up to the
+/// number of known installs.
 pub fn boards_represent_lines()
     ensures { (line : List Era) (sees : Sees) (slot : ℕ) (known : Knowledge BoardAt Install) (opening : BoardAt) (k : ℕ)
         → known.opening ≡ Some opening → ContinuedFromOpening opening known → k ≤ length known.installs
@@ -64,11 +65,11 @@ pub fn boards_represent_lines()
         → IfSome (board_of known k) (SlotRepresented line sees slot) }
 {}
 
-/// `ContinuesFrom` relates an earlier state of a reader to a later one. The opening board is the same in both, and so are
-/// the boards that the reader knew before it continued from a learned list. The later list of installs starts with the
-/// earlier list. `past_of` is the same in both, or `None` in the later state. Clause `itself`: each state is related to
-/// itself. Clause `look`: a state that is related to a later one is still related to it after one more look, even a
-/// look that failed.
+/// `ContinuesFrom` relates an earlier state of a reader to a later one. The opening board is the same in both, and so
+/// are the boards that the reader knew before it continued from a learned list. The later list of installs starts with
+/// the earlier list. `past_of` is the same in both, or `None` in the later state. Clause `itself`: each state is
+/// related to itself. Clause `look`: a state that is related to a later one is still related to it after one more look,
+/// even a look that failed.
 pub fn looks_continue()
     ensures itself { (reader : EdgeReader) → ContinuesFrom (past_of reader) (continuation_of reader) reader }
     ensures look { (past : Option (Knowledge BoardAt Install)) (now : Knowledge BoardAt Install) (before after : EdgeReader)
@@ -76,11 +77,12 @@ pub fn looks_continue()
         → ContinuesFrom past now before → ContinuesFrom past now after }
 {}
 
-/// A reader learned the list `installs` when it knew no board but the opening board, and has only looked since. The state
-/// of the reader was `reader` then and is `later` now. If the list that the reader last saw has at least as many installs
-/// as `installs`, that list starts with `installs`. If the opening board is known, each board that the reader has seen at
-/// a front of at least the number of these installs is the opening board after a list that starts with `installs`. Before
-/// its last look, the reader never continued from a learned list, or only when it knew no board but the opening board.
+/// A reader learned the list `installs` when it knew no board but the opening board, and has only looked since. The
+/// state of the reader was `reader` then and is `later` now. If the list that the reader last saw has at least as many
+/// installs as `installs`, that list starts with `installs`. If the opening board is known, each board that the reader
+/// has seen at a front of at least the number of these installs is the opening board after a list that starts with
+/// `installs`. Before its last look, the reader never continued from a learned list, or only when it knew no board but
+/// the opening board.
 pub fn answers_are_after_installs()
     ensures { (edition : Option BoardAt) (installs : List Install) (reader later : EdgeReader) → StartsReader edition installs reader
         → ContinuesFrom (past_of reader) (continuation_of reader) later → AnswersAfter edition installs later }

@@ -17,8 +17,8 @@ use unl_documents::Memory;
 use unl_http_api::Request;
 use unl_publication::{Reader, Ruled};
 
-/// A report of the writer at one moment, which one reader takes with `learn` or `learn_all`. The report has the number of
-/// published installs (changes of the board) and, if there was room, the list of these installs.
+/// A report of the writer at one moment, which one reader takes with `learn` or `learn_all`. The report has the number
+/// of published installs (changes of the board) and, if there was room, the list of these installs.
 pub type Told = unl_publication::Told<Edition, Install, Ruled<Install>>;
 
 /// A desk that answers requests from the boards that one writer publishes. It looks at the published board once for
@@ -62,8 +62,8 @@ impl EdgeReader {
         self.seat = Some(seat);
     }
 
-    /// Learns from `told` as `learn` does, but fails if `told` has no list. A reader of an orderly publication that knew
-    /// the opening board and no installs, and never continued from a learned list, then continues from exactly the
+    /// Learns from `told` as `learn` does, but fails if `told` has no list. A reader of an orderly publication that
+    /// knew the opening board and no installs, and never continued from a learned list, then continues from exactly the
     /// installs of the list in `told`. Doesn't allocate.
     ///
     /// # Errors
@@ -117,8 +117,8 @@ impl Desk for EdgeReader {
     ///
     /// # Errors
     ///
-    /// `Memory` if the answer runs out of memory, if the look was refused, without a cause, by `left_right` (the crate that
-    /// shares the board between the writer and the readers), or if fewer installs led to the board than the reader has
+    /// `Memory` if the answer runs out of memory, if `left_right` (the crate that shares the board between the writer
+    /// and the readers) refuses the look (it gives no cause), or if fewer installs led to the board than the reader has
     /// learned of.
     fn answer(
         &mut self,

@@ -84,8 +84,8 @@ impl<'a, W: Wait> EdgeWriter<'a, W> {
     ///
     /// # Errors
     ///
-    /// `Memory` if the call runs out of memory. Nothing is published then. If the install was already appended to the log
-    /// of the crate `left_right`, which shares the board with the readers, every later publication fails too.
+    /// `Memory` if the call runs out of memory. Nothing is published then. If the install was already appended to the
+    /// log of the crate `left_right`, which shares the board with the readers, every later publication fails too.
     pub fn publish(&mut self, alloc: Global, what: Install) -> Result<u64, Memory>
         requires front { length self.old.known.installs < 2 ^ 64 - 1 }
         requires within { HasSlotBelow what (length self.old.places) }

@@ -5,7 +5,7 @@ use Rattle.unl_publication.specs.Rule.{shared_knowledge}
 use Rattle.unl_publication.specs.Seen.{is_closed, written}
 use Rattle.unl_edge_state.proofs.beginning.readers_at.Given as goal
 
--- The readers made so far.
+-- The readers created so far are new, and the writer is unchanged.
 abbrev pub invariant-made : goal.invariant-made
 invariant-made l =
     (written l.writer ≡ written l.initial.writer)
