@@ -14,7 +14,7 @@ use Rattle.unl_explain.specs.declared.reason.SegmentReason.{SegmentReason}
 use Rattle.unl_explain.specs.declared.reason.StrategyReason.{StrategyReason}
 use Rattle.unl_explain.specs.Line.{evaluation_data, explanation_data, first_data, parent_data, reason_data, segment_data, strategy_data, variant_data}
 
--- A list contains none if its items contain none.
+-- The JSON form of a list contains no floating-point number if those of its items contain none.
 no_float_in : {T : Type 0} (written : T → Data) → ((x : T) → has_float (written x) ≡ false) → (xs : List T) → items_have_float (items_of (map written xs)) ≡ false
 no_float_in written none [] = refl
 no_float_in written none (x ∷ xs) = rw (none x, no_float_in written none xs) refl
@@ -64,7 +64,7 @@ reason_plain r =
       no_float_in strategy_data strategy_plain r.strategies,
     ) refl
 
--- An explanation, or null, contains none.
+-- The JSON form of an explanation, or null if there is none, contains no floating-point number.
 pub explanation_plain : (reason : Option Reason) → has_float (explanation_data reason) ≡ false
 unfolding explanation_data
 explanation_plain None = refl

@@ -46,7 +46,8 @@ parent_variant cause.Absent = None
 parent_variant cause.HasParents = None
 parent_variant cause.Off = None
 
--- The JSON form of the result for a parent: the parent's status, and whether the parent satisfies the dependency.
+-- The JSON form of the result for a parent: its name, its status, its variant's name if it is on, and whether it satisfies the
+-- dependency.
 unfoldable pub parent_data : ParentReason → Data
 parent_data p = object (
     with_some field.Variant (option_map string (parent_variant p.cause)) (

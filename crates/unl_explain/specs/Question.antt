@@ -25,10 +25,11 @@ question_of value = do
   word ← defaulted 0 any_whole field.Word value
   Ok (record { state = state; feature = feature; context = context; now = now; word = word })
 
--- The question that is parsed from an input, or the input's first fault: `NotJson` if the input isn't a JSON object.
+-- The question that is parsed from an input, or the input's first fault, which is `NotJson` if the input isn't a JSON object.
 unfoldable pub question_in : List ℕ → Reading Question
 question_in bytes = ok_or (json_of bytes) NotJson >>= document question_of
 
--- The state of the question is valid: features and segments are within their limits, and names and ids increase strictly.
+-- The state of the question is valid: features and segments are within their limits, and feature names and segment ids increase
+-- strictly.
 abbrev pub IsValidQuestion : Question → Type 0
 IsValidQuestion question = IsValidState question.state

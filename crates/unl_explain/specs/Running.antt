@@ -1,7 +1,7 @@
 -- The explanation that is computed for an input, and the text that is sent to the sink. The input is a question: why is a feature
 -- of a state on or off for a context, at a time and with a random word? In the definitions below, `left` and `left_after` are the
--- bytes still to be read from the source before and after, and `old` and `new` are the bytes sent to the sink before and after. Each
--- is `None` if it is not observable.
+-- bytes still to be read from the source before and after the call, and `old` and `new` are the bytes sent to the sink so far, before
+-- and after the call. Each is `None` if it is not observable.
 use Rattle.std.specs.Prelude.{◌≡◌, ℕ, List, [], Option, Result, Ok, Err}
 use Rattle.unl_documents.specs.Reading.{Reading, ◌>>=◌}
 use Rattle.unl_explain.specs.declared.question.Question.{Question}

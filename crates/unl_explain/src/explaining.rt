@@ -15,10 +15,10 @@ use unl_documents::{Feature, Memory, State};
 use unl_strategies::Moment;
 
 /// Explains why the feature with the given name is on or off for a context at a moment. The state must be valid: its
-/// features and segments are within their limits, and their names and ids increase strictly. If out of memory, the
-/// result is an error; there is no other error. Otherwise the result is `Ok(None)` exactly if the state has no feature
-/// with that name. The evaluation in the explanation is the one that [`evaluate`](unl_dependencies::evaluate) returns.
-/// Every dependency and every strategy is explained, even if the feature is off.
+/// features and segments are within their limits, and feature names and segment ids increase strictly. The only error
+/// is out of memory. The result is `Ok(None)` exactly if the call succeeds and the state has no feature with that name.
+/// The evaluation in the explanation is the one that [`evaluate`](unl_dependencies::evaluate) returns. Every dependency
+/// and every strategy is explained, even if the feature is off.
 #[tactic(auto, unfolding(crate::specs::Reasons::reasons_of))]
 pub fn explain(
     alloc: Global,

@@ -8,8 +8,8 @@ pub fn evaluation_is_explained()
     ensures { EvaluationIsExplained }
 {}
 
-/// In each explanation the feature is on exactly if it is enabled, each of its dependencies is met, and it has an active
-/// strategy or no strategies.
+/// In each explanation the feature is on exactly if it is enabled, each of its dependencies is met, and it has an
+/// active strategy or no strategies.
 pub fn on_is_explained()
     ensures { OnIsExplained }
 {}

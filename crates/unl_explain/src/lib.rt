@@ -1,6 +1,6 @@
 //! Explains why a feature is on or off for a context at a moment. An explanation holds the feature's evaluation and the
-//! result of each part of the evaluation. [`explain_run`] reads a state, a feature's name, a context and a moment from an
-//! input and writes the explanation as a line of JSON.
+//! result of each part of the evaluation. [`explain_run`] reads a state, a feature's name, a context, a time and a
+//! random word from an input and writes the explanation as a line of JSON.
 #![tactic(auto)]
 
 mod explaining;

@@ -68,7 +68,7 @@ fn cause_in(
 }
 
 /// Returns the status of a parent: `HasParents` if the parent has dependencies of its own (then the parent is not
-/// evaluated), otherwise `On` or `Off`, as the parent's evaluation says.
+/// evaluated), otherwise `On` with the name of the parent's variant, or `Off`, as the parent's evaluation says.
 #[tactic(auto, unfolding(crate::specs::Reasons::cause_of))]
 fn cause_of(
     alloc: Global,

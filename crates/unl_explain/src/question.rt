@@ -1,4 +1,5 @@
-//! The question that an input asks: why is a feature of a state on or off for a context, at a time and with a random word?
+//! The question that an input asks: why is a feature of a state on or off for a context, at a time and with a random
+//! word?
 ghost use Rattle.std.specs.Prelude.{IfOk};
 ghost use Rattle.unl_documents.specs.Reading.{Gives};
 ghost use Rattle.unl_explain.specs.Question.{IsValidQuestion, question_in, question_of};
@@ -16,7 +17,7 @@ use unl_input::context_in;
 /// The latest time that is accepted, in milliseconds since 1970.
 const LAST_MOMENT: u64 = 100_000_000_000_000;
 
-/// The question why a feature of a state is on or off, with all inputs of its evaluation.
+/// The question why a feature of a state is on or off for a context, at a time and with a random word.
 #[derive(Drop)]
 pub(crate) struct Question {
     /// The state that contains the feature.
@@ -53,12 +54,12 @@ impl Document for Question {
     }
 }
 
-/// Parses a question from the bytes of an input, which are one JSON object. The context is empty if
-/// its key is absent or null; the time and the random word are 0 if theirs are.
+/// Parses a question from the bytes of an input, which are one JSON object. If the key of the context is absent or
+/// null, the context is empty. If the key of the time or of the random word is absent or null, that number is 0.
 ///
 /// # Errors
-/// `NotJson` if the bytes are not JSON or the JSON value is not an object; otherwise the first fault of the object's keys.
-/// `Memory` if memory ran out.
+/// `NotJson` if the bytes are not JSON or the JSON value is not an object; otherwise the first fault of the object's
+/// keys. `Memory` if memory ran out.
 #[tactic(auto, unfolding(crate::specs::Question::question_in))]
 pub(crate) fn question_in(alloc: Global, bytes: &[u8]) -> Result<Question, BadDocument>
     ensures gives { Gives result (question_in bytes.now) }

@@ -20,7 +20,7 @@ pub struct Reason {
     pub source: Origin,
 }
 
-/// Whether the parent of a dependency, which is the feature that the dependency names, satisfies the dependency, and why.
+/// Whether the parent of a dependency (the feature that the dependency names) satisfies the dependency, and why.
 #[derive(Debug, Drop)]
 pub struct ParentReason {
     /// The parent's name.
@@ -55,8 +55,8 @@ pub struct StrategyReason {
     pub segments: List<SegmentReason>,
     /// Whether the strategy's rule holds, regardless of constraints and segments.
     pub rule: bool,
-    /// Whether the strategy is active: its rule and all of its constraints hold, and each of its segments is found and has only
-    /// constraints that hold.
+    /// Whether the strategy is active: its rule and all of its constraints hold, and each of its segments is found and
+    /// has only constraints that hold.
     pub active: bool,
 }
 

@@ -41,8 +41,8 @@ pub enum ExplainFault {
 ///
 /// Reads the source to its end. The input is one JSON object with a state, the name of a feature, and the context, the
 /// time and the random word for the evaluation. Writes one line of JSON that explains why the feature is on or off, or
-/// `null` if the state lacks the feature. The feature is evaluated with an empty host name. If the input is refused, the
-/// line `refused: <cause>` is written instead.
+/// `null` if the state lacks the feature. The feature is evaluated with an empty host name. If the input is refused,
+/// the line `refused: <cause>` is written instead.
 ///
 /// # Errors
 /// - `TooLarge` if the input has more than 16,777,216 bytes. The line `refused: <cause>` was written.

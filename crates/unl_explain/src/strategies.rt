@@ -1,5 +1,5 @@
-//! Explains each strategy of a feature: which of its constraints and of its segments' constraints hold, whether its rule
-//! holds, and whether it is active.
+//! Explains each strategy of a feature: which of its constraints hold, which of its segments exist and which of their
+//! constraints hold, whether its rule holds, and whether it is active.
 ghost use Rattle.std.specs.Prelude.{◌≡◌, ◌≤◌, IfOk, length, map};
 ghost use Rattle.unl_documents.specs.Valid.{IsValidFeature};
 ghost use Rattle.unl_explain.specs.Reasons.{reasons_from, segment_reason, strategy_reason, truths_of};
@@ -13,8 +13,8 @@ use unl_documents::{
 };
 use unl_strategies::{Moment, active, rule};
 
-/// Explains for each strategy of a feature whether it is active, and why. `segments` are those of the feature's state. The
-/// feature must be within the limits that are checked when a feature is read from JSON.
+/// Explains for each strategy of a feature whether it is active, and why. `segments` are those of the feature's state.
+/// The feature must be within the limits that are checked when a feature is read from JSON.
 pub(crate) fn explain_strategies(
     alloc: Global,
     feature: &Feature,

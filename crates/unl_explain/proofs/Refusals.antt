@@ -1,2 +1,0 @@
--- The effect of explaining an input that is refused.
-use Rattle.unl_input.specs.declared.refusal.InputRefusal.TheVariants as refusal
