@@ -1,4 +1,4 @@
--- The effect of one request, by the reply that was read or the fault.
+-- The effect of one request, for a reply that was read and for a fault.
 use Rattle.std.proofs.Common.{◌≡◌, ℕ, List, Option, Some, None, ap}
 use Rattle.unl_base.specs.Faults.{Rose}
 use Rattle.unl_base.specs.Doors.{next_of}
@@ -12,7 +12,7 @@ use Rattle.unl_follow.specs.Replica.{Kept, installed_by}
 use Rattle.unl_follow.specs.Run.{AsksOnce}
 use Rattle.unl_follow.specs.Turns.{TurnState, request_at, turned_by, turned_to}
 
--- the replica's state, and the tag of the next request
+-- the state between two turns, from the replica's state and the tag of the next request
 abbrev kept_state : Kept → Option (List ℕ) → TurnState
 kept_state kept tag = record { installed = installed_by kept; tag = tag }
 

@@ -42,7 +42,7 @@ verdict_rises before batch tag Old = omega arith
 verdict_rises before batch tag Gap = omega arith
 verdict_rises before batch tag Held = omega arith
 
--- at most one version is published
+-- a request publishes at most one version, so the front rises by at most 1
 pub front_rises : (result : Result Outcome RefreshFault) (ask : Ask) (before after : Kept) (tag coming : Option (List ℕ))
     → IfOk result (λ outcome. Refreshes 0 ask (installed_by before) coming (record { outcome = outcome; installed = installed_by after; tag = tag }))
     → OnErr result (installed_by after ≡ installed_by before) → after.front ≤ before.front + 1
@@ -52,7 +52,7 @@ front_rises result ask before after tag coming takes fault =
 
 -- ---- lines of histories
 
--- the state of a version that represents the line is one revision of it
+-- the state of a version that represents the line is a revision of the line, restricted to the projects that are visible by `sees`
 pub state_where : (line : List Era) (sees : Sees) (version : Option EnvVersion) → IfSome version (RepresentsLine line sees)
     → IfSome version (λ v. option_map (view_of sees) (revision_in line (revision_of v)) ≡ Some v.state)
 state_where line sees None represents = tt

@@ -55,7 +55,8 @@ next_is (Some list) j = refl
 
 -- ---- one more turn
 
--- a turn that received this, after turns that used up `i` replies and had `k` faults
+-- A turn received `received`, after turns that used up `i` of `replies` and had `k` faults. With it, `taken` replies are used up and there
+-- were `failed` faults. The fault count was `before` at the start of the run, and is `after` now.
 record ReceivedOn (received : ReplyOrFault) (replies : Option (List (List ℕ))) (i k before : ℕ) (replies_after : Option (List (List ℕ))) (after : ℕ) : Type 0 where
   taken : ℕ
   failed : ℕ
@@ -102,7 +103,7 @@ asked_on None request peer peer_after faults faults_after meets = ⊎_elim (λ k
 
 -- ---- the run so far
 
--- `count` turns were made, and this is the state after them
+-- `count` turns were made; after them the replica is in `turn_state`, and the endpoints are in the state `now`
 pub record Reached (ask : Ask) (subject : Subject) (start : Endpoints) (count : ℕ) (turn_state : TurnState) (now : Endpoints) : Type 0 where
   pub turns : List Turn
   pub many : length turns ≡ count
@@ -159,7 +160,7 @@ turns_more Sent has_next_turn ask subject start mid now count turn_state next re
           (subst (λ (s : TurnState). Sent mid.sent (turn_line subject (count + 1) takes.turn.draw (turned_to ask.delta s takes.turn.received)) now.sent) reached.represents takes.sends));
     }
 
--- one more turn
+-- one more turn, whose line was sent in full
 pub Reached_more : (ask : Ask) (subject : Subject) (start mid now : Endpoints) (count : ℕ) (turn_state next : TurnState) → Reached ask subject start count turn_state mid
     → TakesTurn Sends ask subject (count + 1) turn_state mid next now → Reached ask subject start (count + 1) next now
 unfolding state_after
@@ -273,7 +274,7 @@ Reached_next ask asked same subject start mid now count turn_state next reached 
     Reached_more ask subject start mid now count turn_state next reached
     (of_the_run Sends ask asked same subject (count + 1) turn_state next mid now takes)
 
--- the run after a turn that failed
+-- how a run ends if a turn fails
 pub cut_runs : {T : Type 0} (ask asked : Ask) → asked ≡ with_tag asked.tag ask → (subject : Subject) (start mid now : Endpoints) (count : ℕ)
     (turn_state next : TurnState) (most : ℕ) (pace : Option ℕ) (result : Result T FollowFault) (fault : FollowFault)
     → Reached ask subject start count turn_state mid → result ≡ Err fault
@@ -285,7 +286,7 @@ cut_runs ask asked same subject start mid now count turn_state next most pace re
 cut_runs ask asked same subject start mid now count turn_state next most pace result Memory reached is cut silent =
     (reached.turns, silent is ∙ reached.follows.sends)
 
--- out of memory before the first turn: nothing was sent
+-- how a run ends if memory runs out before the first turn: nothing was sent
 pub none_made : {T : Type 0} (most : ℕ) (pace : Option ℕ) (ask : Ask) (subject : Subject) (ends : Endpoints) (result : Result T FollowFault)
     → result ≡ Err Memory → Runs {T = T} most pace ask subject ends result ends
 unfolding follow_text

@@ -14,8 +14,8 @@ use Rattle.unl_follow.specs.Replica.{Subject}
 use Rattle.unl_follow.specs.Turns.{HaveAsked, HaveDrawn, HaveTurned, TurnState, Turn, TurnEffect, follow_text, request_at, turn_line}
 use Rattle.unl_follow.specs.Turns.{turned_to}
 
--- The state of the endpoints of a run: of the peer (with the bytes that were sent on each connection, and the replies to come) and
--- its fault count; the upcoming draws; and the bytes that were sent to the sink. `None` where these are not observable.
+-- The state of the endpoints of a run: the peer's state (the bytes that were sent on each connection, and the replies to come) and
+-- fault count, the upcoming draws, and the bytes that were sent to the sink. What is not observable is `None`.
 pub record Endpoints : Type 0 where
   pub peer : PeerState
   pub faults : ℕ
@@ -25,7 +25,7 @@ pub record Endpoints : Type 0 where
 -- ---- one turn
 
 -- If `received` is a reply, the request was sent to the peer on a new connection, and `received` was parsed from the next reply of
--- the peer. If `received` is `None`, the peer failed, after at most one connection.
+-- the peer. If `received` is `None`, the peer failed, and at most one connection was made.
 abbrev pub MeetsPeer : ReplyOrFault → List ℕ → PeerState → ℕ → PeerState → ℕ → Type 0
 MeetsPeer received request peer faults peer_after faults_after =
     Meets received request (peer_view peer faults) (peer_view peer_after faults_after)
@@ -50,12 +50,12 @@ pub record TakesTurn
 
 -- ---- the run
 
--- the count rose by at least `m`, or is at its maximum
+-- The count rose by at least `m`, or is at its maximum.
 abbrev pub RoseBy : ℕ → ℕ → ℕ → Type 0
 RoseBy m before now = min (before + m) (2 ^ 64 - 1) ≤ now
 
--- These turns took the upcoming replies (`taken` of them) and draws in order. Their requests were sent to the peer; in the `failed`
--- turns in which the peer failed, perhaps only a prefix of the request, or nothing. The text of their lines was sent to the sink, in
+-- These turns took the upcoming replies (`taken` of them) and draws in order. Their requests were sent to the peer; where the peer
+-- failed (in `failed` turns), perhaps only a prefix of the request, or nothing. The text of the turns' lines was sent to the sink, in
 -- full if `Sent` is `Sends`, and a prefix of the text if `Sent` is `SendsPrefix`.
 pub record Follows
     (Sent : Option (List ℕ) → List ℕ → Option (List ℕ) → Type 0) (ask : Ask) (subject : Subject) (before : Endpoints)

@@ -10,9 +10,9 @@ use std::alloc::Global;
 use unl_base::Peer;
 use unl_refresh::{Ask, Outcome, RefreshFault, refresh_once};
 
-/// Makes one request, for a delta or for a whole feed as `ask.delta` says, and judges the reply for the replica. A
-/// reply that applies is published, after a gap the replica's slot is held, and otherwise the replica is unchanged. The
-/// tag of the ask becomes the tag of the next request.
+/// Makes one request, for a delta or for a whole feed as `ask.delta` says, and judges the reply for the replica. If the
+/// reply applies, its version is published; after a gap the replica's slot is held; otherwise the replica is unchanged.
+/// Afterwards the ask has the tag for the next request, if there is one.
 ///
 /// # Errors
 /// `PeerFault` if the peer can't be connected to, written to or read; `Memory` if out of memory. On both errors nothing

@@ -14,9 +14,9 @@ use unl_documents::{Memory, Shared};
 use unl_strategies::Moment;
 use unl_tokens::Book;
 
-/// A place, a book of tokens, and the front, which is the number of publications so far. The place has the newest
-/// version of one environment, if any, and whether the slot is held. As an [`Installer`] a replica has one slot,
-/// number 0.
+/// A place, a token book, and the front, which is the number of installs so far. The place has the newest version of
+/// one environment, if any, and whether the slot is held. As an [`Installer`] a replica has one slot, whose number is
+/// 0.
 #[derive(Drop)]
 pub struct Replica {
     place: Place,
@@ -97,8 +97,8 @@ impl Installer for Replica {
         &self.place
     }
 
-    /// Applies the batch to the place, which is then not held, increments the front and returns it. Out of memory,
-    /// nothing changes.
+    /// Applies the batch to the place, which is then not held, increments the front and returns it. If memory runs
+    /// out, nothing changes.
     fn install(&mut self, alloc: Global, _slot: usize, batch: &Batch) -> Result<u64, Memory> {
         let version = apply(alloc, &self.place, batch)?;
         let version = Shared::new(alloc, version)?;

@@ -1,5 +1,5 @@
-//! One turn of the command `follow`: it sends a request to a server, applies the reply to the replica (the newest version
-//! that the server sent), and writes a line.
+//! One turn of the command `follow`: it sends a request to a server, applies the reply to the replica (the newest
+//! version that the server sent), and writes a line.
 ghost use Rattle.std.specs.Prelude.{◌≡◌, ℕ, ◌<◌, ◌≤◌, ◌+◌, ◌-◌, ◌^◌, List, Option, Err, IfOk, IsTrue, OnOk, string_bytes};
 ghost use Rattle.unl_base.specs.Faults.{Rose};
 ghost use Rattle.unl_base.specs.Streams.{Sends, SendsPrefix};
@@ -21,9 +21,9 @@ use unl_refresh::{Ask, Outcome, RefreshFault};
 use unl_strategies::Moment;
 
 /// Makes turn `number`: takes one draw, sends one request to the peer, applies the reply to the replica, and writes the
-/// line of the turn to the sink. The request carries the tag of `ask`, if there is one. Afterwards `ask` has the tag for
-/// the next request, if there is one. A peer that fails is not an error: nothing is applied, the next request has no tag,
-/// and the line says `fault`.
+/// line of the turn to the sink. The request carries the tag of `ask`, if there is one. Afterwards `ask` has the tag
+/// for the next request, if there is one. A peer that fails is not an error: nothing is applied, the next request has
+/// no tag, and the line says `fault`.
 ///
 /// # Errors
 /// `WriteFault` if the sink fails: a prefix of the line was written. `Memory` if out of memory: nothing was written.
