@@ -8,7 +8,7 @@ use Rattle.unl_http_api.specs.Frames.{IsFrame, TakesFrame}
 use Rattle.unl_http_api.specs.Requests.{ReadsNext}
 use Rattle.unl_http_api.proofs.RequestLemmas.{ReadsNext_unique}
 
--- the next item of a reader is the frame, because the next item is unique
+-- the next item of a reader agrees with the frame, because the next item is unique
 pub frame_is_taken : (bytes : List ℕ) (frame : Frame) (next : Next) (rest : List ℕ)
     → IsFrame bytes frame → ReadsNext bytes next rest → TakesFrame bytes frame next rest
 frame_is_taken bytes (Whole count) next rest framed gives =

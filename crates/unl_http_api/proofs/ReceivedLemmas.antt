@@ -27,13 +27,13 @@ use Rattle.unl_http_api.proofs.RoomLemmas.{window_fits}
 
 -- ---- what a call returns
 
--- if a call returns the reading or fails by memory, and the reading has a property, then the call's result has it
+-- if a call returns the reading or runs out of memory, and the reading has a property, then the call's result has this property
 pub Answers-from_gives : {T E : Type 0} (memory : E) (P : Result T E → Type 0) (result reading : Result T E)
     → Gives memory result reading → P reading → Answers memory P result
 Answers-from_gives memory P (Ok x) reading gives is = subst P gives is
 Answers-from_gives memory P (Err e) reading gives is = λ other. subst P (gives other) is
 
--- if a property holds of only one reading, a call whose result has the property returns that reading or fails by memory
+-- if a property holds of only one reading, a call whose result has the property returns that reading or runs out of memory
 pub Gives-from_answers : {T E : Type 0} (memory : E) (P : Result T E → Type 0) (result reading : Result T E)
     → ((r s : Result T E) → P r → P s → r ≡ s) → Answers memory P result → P reading → Gives memory result reading
 Gives-from_answers memory P (Ok x) reading unique answers is = unique reading (Ok x) is answers
@@ -67,7 +67,7 @@ HasReplyHead-append bytes head rest more has = record {
   few = has.few;
 }
 
--- if the window has no head of few fields, the bytes have none
+-- if the window has no head of at most 64 fields, the bytes have none
 pub no_reply_head : (bytes prefix : List ℕ) → prefix ≡ window bytes
     → ((head : ResponseHead) (rest : List ℕ) → ReadsResponse prefix head rest → length head.fields ≤ 64 → ⊥)
     → HasNoReplyHead bytes
@@ -148,7 +148,7 @@ size_stays (Some k) n m many more =
       | inr small ↦ rw (test_fails n k (omega (arith, small, many)), test_fails m k (omega (arith, small, many, more))) refl
     ]
 
--- the same for the length of the body by status and fields
+-- likewise for the length of the body that follows from the status and the fields
 body_size_stays : (status : ℕ) (fields : List (List ℕ × List ℕ)) (n m : ℕ) → 16777216 < n → n ≤ m
     → body_size status fields n ≡ body_size status fields m
 body_size_stays status fields n m many more = rw (size_stays (stated_length fields) n m many more) refl

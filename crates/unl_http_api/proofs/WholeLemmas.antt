@@ -6,7 +6,7 @@ use Rattle.unl_http_api.specs.declared.end.End.TheVariants.{Closed, Asked, Limit
 use Rattle.unl_http_api.specs.Session.{IsOpen, EndsSo, Session, HasOneSession, OnlyLastCloses, AreWhole, IsRegular, IsRegularSession}
 use Rattle.unl_http_api.proofs.SessionLemmas.{Session_unique}
 
--- every byte string has exactly one session
+-- bytes that have a session have exactly one
 pub has_one_of : (bytes : List ℕ) → (asked : List Request) × (end : End) × Session bytes asked end → HasOneSession bytes
 has_one_of bytes (asked, end, session) = record {
   requests = asked;

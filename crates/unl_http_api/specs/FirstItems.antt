@@ -1,4 +1,4 @@
--- The first item in a buffer, computed without allocating.
+-- The result of `first_item`: what a buffer begins with.
 use Rattle.std.specs.Prelude.{◌≡◌, ◌≤◌, ℕ, List, length, drop}
 use Rattle.unl_http_api.specs.declared.request.Request.{Request}
 use Rattle.unl_http_api.specs.declared.first_item.FirstItem.{FirstItem}

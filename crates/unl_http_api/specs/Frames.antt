@@ -1,4 +1,4 @@
--- The length of the first request in a buffer.
+-- The frame of a buffer: the length of its first request, or why there is no such request.
 use Rattle.std.specs.Prelude.{◌≡◌, ℕ, ◌≤◌, List, length, drop}
 use Rattle.unl_http_api.specs.declared.frame.Frame.{Frame}
 use Rattle.unl_http_api.specs.declared.frame.Frame.TheVariants.{Whole, More, Bad}
@@ -13,7 +13,7 @@ IsFrame bytes (Whole count) = (count ≤ length bytes) × (request : Request) ×
 IsFrame bytes More = IsUnfinished bytes
 IsFrame bytes (Bad status) = IsBad bytes status
 
--- What a reader returns next, and the bytes it then holds, given the frame of the bytes that it held.
+-- `next` is what a reader that holds `bytes` returns if they have this frame, and `rest` is what the reader then holds.
 abbrev pub TakesFrame : List ℕ → Frame → Next → List ℕ → Type 0
 TakesFrame bytes (Whole count) next rest = ((request : Request) × (next ≡ given.Request request)) × (rest ≡ drop count bytes)
 TakesFrame bytes More next rest = (next ≡ given.More) × (rest ≡ bytes)

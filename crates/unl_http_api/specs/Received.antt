@@ -9,7 +9,7 @@ use Rattle.unl_http_api.specs.declared.got.BadReply.{BadReply}
 use Rattle.unl_http_api.specs.declared.got.BadReply.TheVariants.{Head, Short, TooLarge}
 use Rattle.unl_http_api.specs.Fields.{body_length, count_of, first_value, plain_number}
 
--- a reply head begins the bytes, ends within the first 8,192 of them, and has at most 64 fields
+-- the bytes are this reply head and then `rest`, and the head has at most 8,192 bytes and 64 fields
 pub record HasReplyHead (bytes : List ℕ) (head : ResponseHead) (rest : List ℕ) : Type 0 where
   pub reads : ReadsResponse bytes head rest
   pub short : length (print_response head) ≤ 8192
@@ -23,12 +23,12 @@ HasNoReplyHead bytes = (head : ResponseHead) (rest : List ℕ) → ¬ (HasReplyH
 abbrev pub reply_fields : ResponseHead → List (List ℕ × List ℕ)
 reply_fields head = map name_and_value head.fields
 
--- the length that the first `content-length` field states, if there is one and it is 1 to 19 digits
+-- the length that the first `content-length` field states; `None` if there is no such field or it isn't 1 to 19 digits
 abbrev pub stated_length : List (List ℕ × List ℕ) → Option ℕ
 stated_length fields = option_and_then plain_number (first_value (codes "content-length") fields)
 
--- The length of the body: the stated length, or all following bytes if no length is stated. `TooLarge` above 16,777,216,
--- `Short` if fewer bytes follow than stated.
+-- The length of the body: the stated length, or the number of all following bytes if no length is stated. `TooLarge` above 16,777,216
+-- bytes, a limit chosen by this project; otherwise `Short` if fewer bytes follow than stated.
 abbrev pub size_among : Option ℕ → ℕ → Result ℕ BadReply
 size_among (Some stated) following =
     if nat_lt 16777216 stated then Err TooLarge else if nat_lt following stated then Err Short else Ok stated
@@ -43,7 +43,7 @@ body_size status fields following =
     else if status == 304 then Ok 0
     else size_among (stated_length fields) following
 
--- the reply with this status, these fields and this body
+-- the reply with this status, this body, and the first `etag` of these fields as its tag
 abbrev pub got_with : ℕ → List (List ℕ × List ℕ) → List ℕ → Got
 got_with status fields body = record { status = status; tag = first_value (codes "etag") fields; body = body }
 
@@ -56,7 +56,7 @@ reading_with status fields rest =
 abbrev pub reading_of : ResponseHead → List ℕ → Result Got BadReply
 reading_of head rest = reading_with (status_code head) (reply_fields head) rest
 
--- How bytes parse if no more follow: by their head, or as the fault `Head` if they begin with none.
+-- How bytes parse if no more follow: as `reading_of` says of their head, or as the fault `Head` if they begin with no head.
 abbrev pub IsReply : List ℕ → Result Got BadReply → Type 0
 IsReply bytes reading =
     ((head : ResponseHead) × (rest : List ℕ) × HasReplyHead bytes head rest × (reading ≡ reading_of head rest))

@@ -1,4 +1,4 @@
--- The text of a request that this client sends.
+-- The text of a request, as the client side of this crate writes it, and what the server reads from that text.
 use Rattle.std.specs.Prelude.{◌≡◌, ◌≢◌, ℕ, ◌+◌, ◌<◌, ◌≤◌, List, [], ◌++◌, Bool, true, not, ◌==◌, ◌||◌, length, Option, None, IfSome}
 use Rattle.std.specs.Prelude.{IsUtf8, codes}
 use Rattle.std.specs.List.{list_all}
@@ -20,7 +20,7 @@ fits_line text = list_all (λ byte. not (byte == 0 || byte == 10 || byte == 13))
 abbrev pub fits_if_any : Option (List ℕ) → Bool
 fits_if_any text = option_map_or fits_line text true
 
--- the name of a method; requests of this client are never `Other`
+-- the name of a method; empty for `Other`, which `write_request` excludes
 abbrev pub method_name : Method → List ℕ
 method_name Get = codes "GET"
 method_name Post = codes "POST"
@@ -30,7 +30,7 @@ method_name Other = []
 abbrev pub request_line : Method → List ℕ → List ℕ
 request_line method target = method_name method ++ codes " " ++ target ++ codes " HTTP/1.0" ++ crlf_bytes
 
--- the JSON content type and the content length
+-- the header lines `Content-Type: application/json` and `Content-Length`
 abbrev pub json_headers : List ℕ → List ℕ
 json_headers body =
     header (codes "Content-Type") (codes "application/json")
@@ -42,7 +42,7 @@ body_headers Get body = []
 body_headers Post body = json_headers body
 body_headers Other body = []
 
--- the text of a request with these parts, after which the connection ends
+-- the text of a request with these parts, which asks to close the connection
 unfoldable pub request_text : Method → List ℕ → List ℕ → Option (List ℕ) → Option (List ℕ) → List ℕ → List ℕ
 request_text method target host token tag body =
     request_line method target
@@ -54,8 +54,8 @@ request_text method target host token tag body =
     ++ crlf_bytes
     ++ body
 
--- The server can read a request with these parts: the target is valid in the grammar, no value has a control byte other
--- than tab, head and body are within their limits, and only a POST has a body.
+-- The server can read a request with these parts: the method is GET or POST; the target isn't empty, is UTF-8, and has only target bytes;
+-- no value has a control byte other than tab; head and body are within their limits; and only a POST has a body.
 pub record CanBeRead
     (method : Method) (target host : List ℕ) (token tag : Option (List ℕ)) (body : List ℕ) : Type 0 where
   pub method_is : method ≢ Other
@@ -69,7 +69,8 @@ pub record CanBeRead
   pub body_fits : length body ≤ 1048576
   pub body_allowed : method ≡ Get → body ≡ []
 
--- what the server reads from a request with these parts; it trims the white space around the token and the tag
+-- What the server reads from a request with these parts: the token without white space around it and then without `Bearer `, and the tag
+-- likewise without `W/`. The request names no client specification, and closes the connection.
 abbrev pub request_read : Method → List ℕ → Option (List ℕ) → Option (List ℕ) → List ℕ → Request
 request_read method target token tag body = record {
   method = method;

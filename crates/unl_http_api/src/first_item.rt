@@ -1,4 +1,4 @@
-//! Shows that every byte string has exactly one session: one list of requests, and one reason why the connection ends.
+//! Proves that every byte string has exactly one session: one list of requests, and one reason why the connection ends.
 ghost use Rattle.std.specs.Prelude.{◌≡◌, length};
 ghost use Rattle.unl_http_api.specs.Session.{HasOneSession};
 ghost use Rattle.unl_http_api.specs.Finds.{HasParts};
@@ -9,22 +9,22 @@ use crate::head::{MOST_SPANS, Seen, WINDOW, after, see, window};
 use crate::parts::Parts;
 use httparse::spans::{EMPTY_HEADER_SPAN, HeaderSpan};
 
-/// The most requests that are answered on one connection. Chosen by this project.
+/// The most requests that are answered on one connection. This limit is chosen by this project.
 const MOST_REQUESTS: usize = 1000;
 
-/// The first item in a buffer, computed without allocating.
+/// What a buffer begins with. As `Found` of `find`, but without the parts of the request, so that nothing is allocated.
 #[derive(Clone, Copy)]
 enum FirstItem {
     /// A request: its length in bytes, and whether it ends the connection.
     Request(usize, bool),
-    /// The request is incomplete. More bytes may complete it.
+    /// The request is incomplete. Further bytes complete it or lead to a refusal.
     More,
     /// The bytes are refused, whatever follows them. The reply has this status.
     Bad(u16),
 }
 
-/// Shows that the bytes have exactly one session: one list of requests, and one reason why the connection ends. The
-/// function only reads the bytes, and allocates nothing.
+/// States in its contract that the bytes have exactly one session: one list of requests, and one reason why the
+/// connection ends. The function returns nothing, and allocates nothing.
 pub fn has_one_session(bytes: &[u8])
     ensures { HasOneSession bytes.now }
 {

@@ -18,7 +18,7 @@ use unl_documents::Memory;
 pub enum Frame {
     /// A complete request of this many bytes.
     Whole(usize),
-    /// The request is incomplete. More bytes may complete it.
+    /// The request is incomplete. Further bytes complete it or lead to a refusal.
     More,
     /// The bytes are refused, whatever follows them. The reply has this status.
     Bad(u16),
@@ -28,7 +28,7 @@ pub enum Frame {
 /// is a request of exactly this length, or `Next::More`, or `Next::Bad` with the same status.
 ///
 /// # Errors
-/// `Memory`: out of memory. Only possible if the head has more than 64 fields.
+/// `Memory`: out of memory. Only possible if the head has more than 65 fields.
 pub fn request_frame(alloc: Global, bytes: &[u8]) -> Result<Frame, Memory>
     ensures { IfOk result (IsFrame bytes.now) }
 {
@@ -71,7 +71,8 @@ fn frame_by(bytes: &[u8], spans: &mut [HeaderSpan]) -> Option<Frame>
     }
 }
 
-/// The frame of bytes whose window (the first 8,192 bytes) holds no complete head yet.
+/// The frame of bytes whose window (the first 8,192 bytes) has no complete head and isn't hopeless: `More` while the
+/// window isn't full, otherwise `Bad(431)`.
 fn not_yet(bytes: &[u8]) -> Frame
     requires none { HasNoRequest (window bytes.now) }
     requires hopeful { IsHopeless (window bytes.now) → ⊥ }

@@ -15,10 +15,10 @@ use httparse::spans::{EMPTY_HEADER_SPAN, HeaderSpan, ResponseSpans, parse_respon
 use std::alloc::Global;
 use unl_documents::List;
 
-/// The most fields that a reply's head may have. Chosen by this project.
+/// The most fields that a reply's head may have. This limit is chosen by this project.
 pub(crate) const MOST_FIELDS: usize = 64;
 
-/// The most bytes that a reply's body may have: 16 MiB. Chosen by this project.
+/// The most bytes that a reply's body may have: 16 MiB. This limit is chosen by this project.
 const MOST_BODY: u64 = 16_777_216;
 
 /// Parses the head at the start of the window (the first 8,192 bytes of a reply). Returns `None` if there is no
@@ -34,7 +34,7 @@ fn see_reply(window: &[u8], spans: &mut [HeaderSpan]) -> Option<ResponseSpans>
     }
 }
 
-/// The length of the body in bytes. `following` is the number of bytes after the head.
+/// The length of the body in bytes, 0 for a 304. `following` is the number of bytes after the head.
 ///
 /// # Errors
 /// - `Head`: there is a `Transfer-Encoding`, more than one `Content-Length`, or one that isn't 1 to 19 digits.
@@ -53,8 +53,8 @@ fn body_size(status: u16, fields: &Fields, following: usize) -> Result<usize, Ba
     size_among(fields.stated_length(), following)
 }
 
-/// The length of the body in bytes, given the length that `Content-Length` states. Without one, all `following` bytes
-/// are the body.
+/// The length of the body in bytes: the length that `Content-Length` states (`stated`), or all `following` bytes if
+/// none is stated. The errors are the `TooLarge` and `Short` of `body_size`.
 fn size_among(stated: Option<u64>, following: usize) -> Result<usize, BadReply>
     ensures size { result ≡ size_among stated following }
     ensures fits { IfOk result (λ size. size ≤ following) }
@@ -107,8 +107,8 @@ pub(crate) fn read_reply(
     }
 }
 
-/// Shows that the bytes parse in exactly one way: as a reply, or as a fault. The function only looks for the head, and
-/// allocates nothing.
+/// States in its contract that the bytes parse in exactly one way: as a reply, or as a fault. The function returns
+/// nothing, and allocates nothing.
 pub fn has_one_reply(bytes: &[u8])
     ensures { HasOneReply bytes.now }
 {

@@ -45,7 +45,7 @@ impl ReplyReader {
         self.bytes.len()
     }
 
-    /// Appends the next piece. If memory runs out, the held bytes are unchanged.
+    /// Appends the next piece of the reply. If memory runs out, the held bytes are unchanged.
     ///
     /// # Errors
     /// `Memory`: out of memory.
@@ -57,7 +57,7 @@ impl ReplyReader {
         Ok(())
     }
 
-    /// Parses the held bytes as a complete reply.
+    /// Parses the held bytes as a reply after which nothing more comes.
     ///
     /// # Errors
     /// The fault of the bytes, see [`BadReply`], or `BadReply::Memory`: out of memory.
@@ -67,7 +67,7 @@ impl ReplyReader {
         // The result depends on the bytes alone, not on the pieces in which they arrived.
         ensures only { (reading : Result Got BadReply) → IsReply self reading → Gives BadReply.Memory result reading }
 
-        // The tag fits in a header line, so the next request can carry it.
+        // The tag fits in a header line, as `write_request` requires of the tag that the next request carries.
         ensures tag { IfOk result (λ got. IsTrue (fits_if_any got.tag)) }
     {
         let mut spans = [EMPTY_HEADER_SPAN; MOST_FIELDS];

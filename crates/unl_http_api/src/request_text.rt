@@ -1,4 +1,4 @@
-//! Writes the requests of this client.
+//! Writes requests, for the client side of this crate.
 ghost use Rattle.std.specs.Prelude.{◌≡◌, ◌≢◌, ◌++◌, [], IfOk, OnOk, IsTrue, codes, option_copied};
 ghost use Rattle.std.specs.Option.{option_map_or};
 ghost use Rattle.unl_http_api.specs.declared.request.Method.{Method};
@@ -19,7 +19,8 @@ pub fn fits_line(text: &[u8]) -> bool
 }
 
 /// The text of an HTTP/1.0 request by GET or POST, with `Connection: close`. The token becomes the `Authorization`
-/// field, the tag the `If-None-Match` field. A POST also has `Content-Type` and `Content-Length` fields.
+/// field, the tag the `If-None-Match` field. Only a POST has `Content-Type` and `Content-Length` fields, so the body of
+/// a GET should be empty.
 ///
 /// # Errors
 /// `Memory`: out of memory.
@@ -53,7 +54,7 @@ pub fn write_request(
     Ok(List::from_vec(text))
 }
 
-/// The name of a method in the request line. Empty for `Other`, which this client never sends.
+/// The name of a method in the request line. Empty for `Other`, which `write_request` excludes.
 fn method_name(method: Method) -> &'static str
     ensures { result.now ≡ method_name method }
 {
@@ -97,7 +98,7 @@ fn push_tag(text: &mut Vec<u8>, tag: Option<&[u8]>) -> Result<(), Memory>
     }
 }
 
-/// Appends the content type and length, for a POST.
+/// Appends the `Content-Type` and `Content-Length` fields, for a POST.
 fn push_body_headers(text: &mut Vec<u8>, method: Method, body: &[u8]) -> Result<(), Memory>
     ensures { OnOk result (text.new.items ≡ text.old.items ++ body_headers method body.now) }
 {
@@ -108,7 +109,7 @@ fn push_body_headers(text: &mut Vec<u8>, method: Method, body: &[u8]) -> Result<
     }
 }
 
-/// Appends the JSON content type and the content length.
+/// Appends `Content-Type: application/json` and the `Content-Length` field.
 fn push_json_headers(text: &mut Vec<u8>, body: &[u8]) -> Result<(), Memory>
     ensures { OnOk result (text.new.items ≡ text.old.items ++ json_headers body.now) }
 {
