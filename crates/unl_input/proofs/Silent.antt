@@ -43,7 +43,7 @@ prints_cause_alone taking silent = λ d bytes. silent_from taking silent (lines 
 pub nothing_sent : (old new : Option (List ℕ)) (text : List ℕ) → text ≡ [] → Sends old text new → new ≡ old
 nothing_sent old new text none sends = sends ∙ ap (λ (t : List ℕ). option_map (λ sent. sent ++ t) old) none ∙ sym (sends_nothing old)
 
--- if memory ran out before a line was refused, nothing was printed
+-- if no line prints anything and memory ran out, nothing was printed
 pub memory_is_silent : {D : Type 0} (taking : Taking D) (d : D) (left left_after old new : Option (List ℕ)) → IsSilent taking
     → TakesLines taking d (Err Memory) left left_after old new → new ≡ old
 memory_is_silent taking d left left_after old new silent takes =

@@ -83,7 +83,7 @@ none_left {D = D} taking k before after next kept same = record {
   sent = subst (λ s. Sends before.sent [] s) same (sends_nothing before.sent);
 }
 
--- ---- a line that is too long, and one past the limit
+-- ---- a line that is too long, and a line past the limit on the number of lines
 
 heads_long : {D : Type 0} (taking : Taking D) (k : ℕ) (d : D) (prefix : List ℕ) (after : LinesScene D) → k ≤ most_lines → has_end prefix ≡ false
     → longest_line < length prefix → Heads taking k d prefix after (Err (codes "LineTooLong"))
@@ -127,7 +127,7 @@ pub runs_out : {D : Type 0} (before after : LinesScene D) → BeginsLine before.
     → RunsOutAtLine before after
 runs_out before after begun same = record { out = begun.prefix; got = begun.got; sent = same }
 
--- the bytes begin line 1,000,001, which is past the limit
+-- one more byte begins line 1,000,001, which is past the limit: the effect of processing all lines
 pub ends_past : {D : Type 0} (taking : Taking D) (first : D) (fault : LinesFault) (start sent : Option (List ℕ)) (k : ℕ) (before after : LinesScene D) (b : ℕ)
     → k ≡ 1000001 → Sofar taking first start sent k before → ConsumesBytes before (b ∷ []) after
     → PrintsCause fault 1000001 (codes "TooManyLines") before.sent after.sent

@@ -27,7 +27,7 @@ abbrev pub said : {T : Type 0} → (T → List ℕ) → InputOutcome T → List 
 said says (Ok answer) = says answer
 said says (Err refusal) = refusal_line refusal
 
--- The bytes that were read determine this outcome: they are the whole input, or more bytes than an input may have.
+-- The bytes that were read determine this outcome: they are the whole input or, for `TooLarge`, more bytes than an input may have.
 abbrev pub SufficesFor : {T : Type 0} → InputOutcome T → Option (List ℕ) → List ℕ → Option (List ℕ) → Type 0
 SufficesFor (Ok answer) left bytes left_after = IsWholeInput left bytes left_after
 SufficesFor (Err (BadInput fault)) left bytes left_after = IsWholeInput left bytes left_after

@@ -19,7 +19,7 @@ context_fault (of_context.WrongKind part) = WrongKind field.Context
 context_fault of_context.TooLarge = TooLarge field.Context 0
 context_fault of_context.Memory = Memory
 
--- The result of reading a context, with a fault placed at the key `context`.
+-- The result of reading a context, with a fault converted to the fault of a document at the key `context`.
 abbrev pub at_context : Result Fields BadContext → Reading Fields
 at_context (Ok context) = Ok context
 at_context (Err fault) = Err (context_fault fault)

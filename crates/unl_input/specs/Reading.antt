@@ -19,7 +19,7 @@ pub record Gets
 abbrev pub IsAtEnd : List ℕ → Option (List ℕ) → Type 0
 IsAtEnd held left = (held ≡ []) × HasEnded left
 
--- the most bytes that a line may have
+-- the most bytes that a line may have, without its line feed
 abbrev pub longest_line : ℕ
 longest_line = 16777216
 
@@ -33,7 +33,8 @@ abbrev pub Fills : Bool → List ℕ → Option (List ℕ) → List ℕ → Opti
 Fills true held left held_after left_after = Gets held left [] held_after left_after × (0 < length held_after)
 Fills false held left held_after left_after = Gets held left [] held_after left_after × IsAtEnd held_after left_after
 
--- the rest of a line and its line feed were consumed as a prefix of the held bytes
+-- The rest of a line and its line feed were removed from the start of the held bytes. `line` is the part of the line from before, and
+-- `line_after` is the whole line, which is within the limit.
 pub record EndsLine (line held line_after held_after : List ℕ) : Type 0 where
   pub piece : List ℕ
   pub unbroken : has_end piece ≡ false
@@ -41,7 +42,8 @@ pub record EndsLine (line held line_after held_after : List ℕ) : Type 0 where
   pub short : length line_after ≤ longest_line
   pub split : held ≡ piece ++ 10 ∷ held_after
 
--- some bytes without a line feed were consumed as a prefix of the held bytes
+-- At least one byte, and no line feed, was removed from the start of the held bytes. `line` is the part of the line from before, and
+-- `line_after` has these bytes appended.
 pub record GrowsLine (line held line_after held_after : List ℕ) : Type 0 where
   pub piece : List ℕ
   pub unbroken : has_end piece ≡ false
@@ -49,7 +51,7 @@ pub record GrowsLine (line held line_after held_after : List ℕ) : Type 0 where
   pub some : length line < length line_after
   pub split : held ≡ piece ++ held_after
 
--- bytes of a line were consumed, and its line feed too if it was found
+-- bytes of a line were consumed, with its line feed if that was found (`true`)
 abbrev pub ConsumesPiece : Bool → List ℕ → List ℕ → List ℕ → List ℕ → Type 0
 ConsumesPiece true line held line_after held_after = EndsLine line held line_after held_after
 ConsumesPiece false line held line_after held_after = GrowsLine line held line_after held_after
@@ -61,7 +63,7 @@ TakesNext (Last line) held left held_after left_after =
     IsTextLine line.items × (line.items ≢ []) × Gets held left line.items held_after left_after × IsAtEnd held_after left_after
 TakesNext End held left held_after left_after = Gets held left [] held_after left_after × IsAtEnd held_after left_after
 
--- part of a line was consumed
+-- part of a line was consumed, or nothing
 pub record BeginsLine (held : List ℕ) (left : Option (List ℕ)) (held_after : List ℕ) (left_after : Option (List ℕ)) : Type 0 where
   pub prefix : List ℕ
   pub unbroken : has_end prefix ≡ false
@@ -72,7 +74,8 @@ pub record BeginsLong (held : List ℕ) (left : Option (List ℕ)) (held_after :
   pub begun : BeginsLine held left held_after left_after
   pub long : longest_line < length begun.prefix
 
--- the bytes that were consumed although no line was returned: the start of a line
+-- What was consumed although no line was returned: the start of a line, or nothing. If the source failed, nothing is held afterwards. If
+-- the line is too long, more bytes were consumed than a line may have.
 abbrev pub StopsAtFault : ReadFault → List ℕ → Option (List ℕ) → List ℕ → Option (List ℕ) → Type 0
 StopsAtFault Failed held left held_after left_after = BeginsLine held left held_after left_after × (held_after ≡ [])
 StopsAtFault TooLong held left held_after left_after = BeginsLong held left held_after left_after

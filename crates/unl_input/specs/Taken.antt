@@ -18,7 +18,7 @@ LineResult D = Result (Taken D) (List ℕ)
 abbrev pub Taking : Type 0 → Type 0
 Taking D = ℕ → D → List ℕ → LineResult D
 
--- the most lines that an input may have
+-- the most lines that an input may have; lines are numbered from 1
 abbrev pub most_lines : ℕ
 most_lines = 1000000
 
@@ -28,7 +28,7 @@ take_line taking k d line =
     if nat_lt most_lines k then Err (codes "TooManyLines")
     else (if nat_lt longest_line (length line) then Err (codes "LineTooLong") else taking k d line)
 
--- the text that reports a refused line
+-- the text that reports that line `k` is refused, for this cause
 abbrev pub refused_text : ℕ → List ℕ → List ℕ
 refused_text k cause = codes "refused: line " ++ (decimal k ++ (codes ": " ++ (cause ++ codes "\n")))
 
@@ -54,8 +54,8 @@ abbrev pub ending_text : Ending → List ℕ
 ending_text done = []
 ending_text (refused k cause) = refused_text k cause
 
--- the text that the lines print before any is refused, how the processing ends, and the state after all lines that were not
--- refused
+-- the text that is printed by the lines before the first refused one (all lines if none is refused), how the processing ends, and the
+-- state after these lines
 pub record LinesOutcome (D : Type 0) : Type 0 where
   pub text : List ℕ
   pub ending : Ending
@@ -74,7 +74,7 @@ abbrev pub followed : {D : Type 0} → ℕ → D → LineResult D → (D → Lin
 followed k d (Err cause) rest = record { text = []; ending = refused k cause; desk = d }
 followed k d (Ok taken) rest = begun_by taken.text (rest taken.desk)
 
--- the outcome of the lines from line `k` on
+-- the outcome of the lines from line `k` on, if `d` is the state before them
 abbrev pub take_from : {D : Type 0} → Taking D → ℕ → D → List (List ℕ) → LinesOutcome D
 take_from taking k d [] = record { text = []; ending = done; desk = d }
 take_from taking k d (line ∷ more) = followed k d (take_line taking k d line) (λ after. take_from taking (k + 1) after more)

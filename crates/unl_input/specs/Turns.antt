@@ -16,8 +16,8 @@ PrintsCause ReadFault k cause old new = ⊥
 PrintsCause WriteFault k cause old new = SendsPrefix old (refused_text k cause) new
 PrintsCause Memory k cause old new = new ≡ old
 
--- The part that was sent of the text for line `k`. The text is the line's output or, if the line is refused, the report of the
--- refusal. All of it was sent, a prefix if a write failed, or nothing if memory ran out.
+-- The part that was sent of the text for line `k`, whose specified result is `comes`. The text is the line's output or, if the line is
+-- refused, the report of the refusal. All of it was sent, a prefix if a write failed, or nothing if memory ran out.
 abbrev pub Prints : {D : Type 0} → Result (Unit {0}) LinesFault → ℕ → LineResult D → D → Option (List ℕ) → Option (List ℕ) → Type 0
 Prints (Ok u) k comes desk old new = (text : List ℕ) × (comes ≡ Ok (record { text = text; desk = desk })) × Sends old text new
 Prints (Err Bad) k comes desk old new = (cause : List ℕ) × (comes ≡ Err cause) × Sends old (refused_text k cause) new
@@ -30,7 +30,7 @@ abbrev pub FitsAfter : {D : Type 0} → (ℕ → D → Type 0) → ℕ → Progr
 FitsAfter fits k Line desk = fits (k + 1) desk
 FitsAfter fits k Over desk = (n : ℕ) × (n ≤ k + 1) × fits n desk
 
--- the state that the lines change, the bytes in the buffer, the bytes still to be read, and the bytes sent
+-- the state that the lines change, the bytes in the buffer, the bytes still to be read, and the bytes sent; `None` if not observable
 pub record LinesScene (D : Type 0) : Type 0 where
   pub desk : D
   pub held : List ℕ
@@ -45,7 +45,7 @@ ConsumesBytes before out after = Gets before.held before.left out after.held aft
 abbrev pub MayFollow : {D : Type 0} → LinesScene D → List ℕ → Type 0
 MayFollow after rest = IsAtEnd after.held after.left → rest ≡ []
 
--- line `k` was processed, and its line feed was consumed
+-- line `k` was accepted and processed, its line feed was consumed, and its output was sent
 pub record ProcessesLine {D : Type 0} (taking : Taking D) (k : ℕ) (before after : LinesScene D) : Type 0 where
   pub line : List ℕ
   pub unbroken : has_end line ≡ false
@@ -54,7 +54,7 @@ pub record ProcessesLine {D : Type 0} (taking : Taking D) (k : ℕ) (before afte
   pub is : take_line taking k before.desk line ≡ Ok (record { text = text; desk = after.desk })
   pub sent : Sends before.sent text after.sent
 
--- the input was read to its end, and all of it was processed
+-- the input was read to its end, its lines from line `k` on were processed, and their output was sent
 pub record ReachesEnd {D : Type 0} (taking : Taking D) (k : ℕ) (before after : LinesScene D) : Type 0 where
   pub out : List ℕ
   pub text : List ℕ
@@ -63,7 +63,7 @@ pub record ReachesEnd {D : Type 0} (taking : Taking D) (k : ℕ) (before after :
   pub is : take_from taking k before.desk (lines out) ≡ record { text = text; ending = done; desk = after.desk }
   pub sent : Sends before.sent text after.sent
 
--- line `k` is refused, no matter which bytes follow
+-- line `k` is refused, no matter which bytes follow, and the whole report of the refusal was sent
 pub record IsRefusedAt {D : Type 0} (taking : Taking D) (k : ℕ) (before after : LinesScene D) : Type 0 where
   pub out : List ℕ
   pub cause : List ℕ
@@ -72,7 +72,7 @@ pub record IsRefusedAt {D : Type 0} (taking : Taking D) (k : ℕ) (before after 
       → take_from taking k before.desk (lines (out ++ rest)) ≡ record { text = []; ending = refused k cause; desk = before.desk }
   pub sent : Sends before.sent (refused_text k cause) after.sent
 
--- the whole text begins with these bytes
+-- the whole text of the outcome begins with these bytes
 abbrev pub TextBeginsWith : {D : Type 0} → List ℕ → LinesOutcome D → Type 0
 TextBeginsWith text outcome = (tail : List ℕ) × (whole_text outcome ≡ text ++ tail)
 
@@ -84,7 +84,7 @@ pub record PrintsPrefix {D : Type 0} (taking : Taking D) (k : ℕ) (before after
   pub is : (rest : List ℕ) → MayFollow after rest → TextBeginsWith text (take_from taking k before.desk (lines (out ++ rest)))
   pub sent : SendsPrefix before.sent text after.sent
 
--- nothing was printed, and at most part of a line was read
+-- a read failed: nothing was printed, at most part of a line was consumed, and the buffer is empty
 pub record StopsReading {D : Type 0} (before after : LinesScene D) : Type 0 where
   pub begun : BeginsLine before.held before.left after.held after.left
   pub none : after.held ≡ []

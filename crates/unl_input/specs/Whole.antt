@@ -11,12 +11,12 @@ pub record IsAnswered {D : Type 0} (outcome : LinesOutcome D) (old new : Option 
   pub ending : outcome.ending ≡ done
   pub sent : Sends old outcome.text new
 
--- a line is refused; the output of the lines before it and the cause were sent
+-- a line is refused; the output of the lines before it and the report of the refusal were sent
 pub record IsRefusing {D : Type 0} (outcome : LinesOutcome D) (old new : Option (List ℕ)) : Type 0 where
   pub ending : IsRefused outcome.ending
   pub sent : Sends old (whole_text outcome) new
 
--- some bytes were read, and the lines that ended in them were processed
+-- some bytes were read, the lines of these bytes that end with a line feed were processed, and all output of these lines was sent
 pub record AnswersRead {D : Type 0} (taking : Taking D) (desk : D) (left left_after old new : Option (List ℕ)) : Type 0 where
   pub read : List ℕ
   pub took : Takes left read left_after
@@ -28,7 +28,7 @@ pub record HoldsOfRead (left left_after : Option (List ℕ)) (P : List ℕ → T
   pub took : Takes left read left_after
   pub holds : (rest : List ℕ) → (HasEnded left_after → rest ≡ []) → P (read ++ rest)
 
--- Just the output of the first `count` lines was sent, none of which is refused. It is a prefix of the whole text.
+-- None of the first `count` lines is refused, and just their output was sent, which is a prefix of all that the input prints.
 pub record AnswersFirst {D : Type 0} (taking : Taking D) (desk : D) (bytes : List ℕ) (old new : Option (List ℕ)) : Type 0 where
   pub count : ℕ
   pub answered : IsAnswered (first_lines_outcome taking desk count bytes) old new
@@ -50,7 +50,7 @@ pub record AnswersAllLines {D : Type 0} (taking : Taking D) (desk desk_after : D
   pub leaves : (lines_outcome taking desk read).desk ≡ desk_after
 
 -- The effect of processing the lines of an input, by its result. `left` and `left_after` are the bytes still to be read before
--- and after, and `old` and `new` are the bytes sent before and after. Either may be unobservable (`None`).
+-- and after, and `old` and `new` are the bytes sent before and after. Each is `None` if it is not observable.
 abbrev pub TakesLines : {D : Type 0} → Taking D → D → Result (Unit {0}) LinesFault → Option (List ℕ) → Option (List ℕ) → Option (List ℕ)
     → Option (List ℕ) → Type 0
 TakesLines taking desk (Ok u) left left_after old new = AnswersInput taking desk left left_after old new

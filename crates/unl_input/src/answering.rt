@@ -38,7 +38,7 @@ pub trait InputAnswer {
 /// Why a whole input was not answered.
 #[derive(Debug, Drop, PartialEq, Error)]
 pub enum AnswerFault {
-    /// The input is refused.
+    /// The input is refused, for this reason.
     #[error("the input is refused")]
     Refused(InputRefusal),
     /// The source failed.
@@ -52,12 +52,13 @@ pub enum AnswerFault {
     Memory,
 }
 
-/// Reads an input to its end, computes its answer and writes the answer's text. Nothing is written before the whole input is
-/// read and accepted.
+/// Reads an input to its end, computes its answer and writes the answer's text. Nothing is written before the whole
+/// input is read and accepted.
 ///
 /// # Errors
 /// - `Refused` with `TooLarge` if the input has more than 16,777,216 bytes. Nothing is written.
-/// - `Refused` with `BadInput` if the input is not too large but has a fault; this is its first fault. Nothing is written.
+/// - `Refused` with `BadInput`, which carries the first fault of the input, if the input is not too large but has a
+///   fault. Nothing is written.
 /// - `ReadFault` if the source failed. Nothing is written.
 /// - `WriteFault` if the sink failed. A prefix of the text was written.
 /// - `Memory` if memory ran out. Nothing is written.
@@ -69,9 +70,9 @@ pub fn answer_input<A: InputAnswer, S: Source, K: Sink>(
 ) -> Result<A::Answer, AnswerFault>
     ensures answers { AnsweringEnds (A.reads asked.now) A.says result
         (S.left source.old) (S.left source.new) (K.sent sink.old) (K.sent sink.new) }
-    // Out of memory is not a fault of the input.
+    // Running out of memory is never reported as a fault of the input.
     ensures named { result ≢ Err (AnswerFault.Refused (InputRefusal.BadInput BadDocument.Memory)) }
-    // A read or write fault is returned only if the stream failed.
+    // `ReadFault` is returned only if the source failed, and `WriteFault` only if the sink failed.
     ensures read { IsErrOf result AnswerFault.ReadFault → Rose (S.faults source.old) (S.faults source.new) }
     ensures write { IsErrOf result AnswerFault.WriteFault → Rose (K.faults sink.old) (K.faults sink.new) }
     ensures source_later { S.faults source.old ≤ S.faults source.new }

@@ -36,8 +36,8 @@ fn context_of(alloc: Global, value: &Value) -> Result<Context, BadDocument>
     }
 }
 
-/// Converts the fault of a context to the fault of a document at the key `context`. The part of the context at fault is
-/// not kept.
+/// Converts the fault of a context to the fault of a document at the key `context`. Drops which part of the context is
+/// at fault. `TooLarge` carries 0 in place of a size.
 fn context_fault(fault: BadContext) -> BadDocument
     ensures { result ≡ context_fault fault }
 {

@@ -3,7 +3,7 @@ ghost use Rattle.unl_input.specs.Laws.{IsSilent, PrintsCauseAlone};
 
 use crate::line::LineProcessor;
 
-/// If no line prints anything, only the cause of a refused line is printed.
+/// If no accepted line prints anything, nothing is printed but the report of a refused line.
 pub fn silent_lines<A: LineProcessor>()
     ensures { IsSilent A.line_result → PrintsCauseAlone A.line_result }
 {}

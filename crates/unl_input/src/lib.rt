@@ -1,6 +1,6 @@
-//! The inputs of the program's commands. An input is read whole, up to a limit, and answered or refused ([`answer_input`]), or it
-//! is taken line by line, each line processed before the next is read ([`process_lines`]). [`context_in`] reads the context in an
-//! input.
+//! The inputs of the program's commands. An input is read whole, up to a limit, and answered or refused
+//! ([`answer_input`]), or it is taken line by line, each line processed before the next is read ([`process_lines`]).
+//! [`context_in`] reads the context in an input.
 #![tactic(auto)]
 
 mod answering;

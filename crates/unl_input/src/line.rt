@@ -10,7 +10,7 @@ use unl_documents::{Memory, Text};
 /// Why a line was not processed.
 #[derive(Debug, Drop, Error)]
 pub enum LineRefusal {
-    /// The line is refused. This is the text of the cause.
+    /// The line is refused, for the cause with this text.
     #[error("the line is refused")]
     Cause(Text),
     /// Out of memory.
@@ -45,15 +45,15 @@ pub trait LineProcessor {
     /// The state that the lines change.
     type Desk;
 
-    // The result of a line, given its number, the state before it and its bytes: the text that it prints and the state
-    // after it, or the cause for which it is refused.
+    // The result of a line, given its number, the state before it and its bytes: the text that the line prints and the
+    // state after it, or the cause for which the line is refused.
     ghost line_result: { ℕ → Self.Desk → List ℕ → Result (Taken Self.Desk) (List ℕ) };
 
     // A condition on the state before the line with this number, for example that no counter is at its maximum.
     ghost fits: { ℕ → Self.Desk → Type 0 };
 
-    /// Processes the line with this number, counted from 1. `line` has no line feed. Returns the text that the line
-    /// prints.
+    /// Processes the line with this number, counted from 1 and at most 1,000,000. `line` is without its line feed.
+    /// Returns the text that the line prints.
     ///
     /// # Errors
     /// `Cause` if the line is refused, and `Memory` if memory runs out.

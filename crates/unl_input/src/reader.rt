@@ -25,7 +25,7 @@ pub enum NextLine {
     Line(Vec<u8>),
     /// The last line. It is not empty and has no line feed.
     Last(Vec<u8>),
-    /// The source has ended.
+    /// No bytes are left: the buffer is empty, and the source has ended.
     End,
 }
 
@@ -35,7 +35,7 @@ pub enum ReadFault {
     /// The source failed.
     #[error("the input failed")]
     Failed,
-    /// The line is longer than allowed.
+    /// The line has more than 16,777,216 bytes, not counting its line feed.
     #[error("the line is too long")]
     TooLong,
     /// Out of memory.
@@ -177,8 +177,8 @@ impl LineReader {
     }
 
     /// Moves bytes of the line from the buffer to the end of `line`. Returns whether the line feed was found, which is
-    /// then consumed too. `line` grows to at most one byte more than a line may have, which is enough to see that it is
-    /// too long. On an error the buffer is unchanged.
+    /// then consumed too. `line` grows to at most one byte more than a line may have, which is enough to see that the
+    /// line is too long. If memory runs out, the buffer is unchanged.
     fn take_piece(&mut self, line: &mut Vec<u8>) -> Result<bool, AllocError>
         requires held { 0 < length self.old }
         requires short { length line.old.items ≤ longest_line }
@@ -196,7 +196,7 @@ impl LineReader {
         Ok(false)
     }
 
-    /// Reads the next byte. Returns `None` exactly at the end of the source.
+    /// Returns the next byte, or `None` if no bytes are left in the buffer and the source.
     ///
     /// # Errors
     /// `Failed`: the source failed.
@@ -217,7 +217,7 @@ impl LineReader {
     ///
     /// # Errors
     /// - `Failed`: the source failed.
-    /// - `TooLong`: the line has more than 16,777,216 bytes before its line feed.
+    /// - `TooLong`: the line has more than 16,777,216 bytes, not counting its line feed.
     /// - `Memory`: out of memory.
     pub fn next_line<S: Source>(
         &mut self,
@@ -230,7 +230,7 @@ impl LineReader {
         ensures later { S.faults source.old ≤ S.faults source.new }
     {
         let mut line = Vec::new(alloc);
-        // A line of exactly the largest size is accepted if its line feed comes next.
+        // A line of exactly the largest size is accepted if its line feed or the end of the input comes next.
         'pieces: while line.len() <= LONGEST_LINE {
             if !self.fill(source)? {
                 if line.is_empty() {

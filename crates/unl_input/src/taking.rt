@@ -21,7 +21,7 @@ const PAST_LINES: u64 = MOST_LINES + 1;
 /// Why not all lines were processed.
 #[derive(Clone, Copy, Debug, PartialEq, Eq, Error)]
 pub enum LinesFault {
-    /// A line was refused, and the cause was printed.
+    /// A line was refused, and the report of the refusal was printed.
     #[error("a line was refused")]
     Bad,
     /// The source failed.
@@ -73,7 +73,7 @@ fn refused_line(alloc: Global, number: u64, cause: &str) -> Result<String, Alloc
     format!(in alloc; "refused: line {number}: {cause}\n")
 }
 
-/// Prints why a line is refused.
+/// Prints why a line is refused. Returns `Bad`, or why the report could not be printed.
 fn refuse<K: Sink>(alloc: Global, sink: &mut K, number: u64, cause: &str) -> LinesFault
     ensures prints { PrintsCause result number cause.now (K.sent sink.old) (K.sent sink.new) }
     ensures other { result ≢ LinesFault.ReadFault }
@@ -155,12 +155,12 @@ fn turn<A: LineProcessor, S: Source, K: Sink>(
 /// `A.fits number desk` is the condition of the line processor on the state before the line with this number, for
 /// example that no counter is at its maximum.
 ///
-/// A line has at most 16,777,216 bytes before its line feed, and there are at most 1,000,000 lines. A longer line is
+/// A line has at most 16,777,216 bytes without its line feed, and there are at most 1,000,000 lines. A longer line is
 /// refused with the cause `LineTooLong`, and line 1,000,001 with the cause `TooManyLines`.
 ///
 /// # Errors
-/// `Bad` if a line is refused, and then the cause is printed. `ReadFault` if the source failed, `WriteFault` if the sink
-/// failed, and `Memory` if memory runs out.
+/// `Bad` if a line is refused; the line `refused: line <number>: <cause>` is then printed. `ReadFault` if the source
+/// failed, `WriteFault` if the sink failed, and `Memory` if memory runs out.
 pub fn process_lines<A: LineProcessor, S: Source, K: Sink>(
     alloc: Global,
     desk: &mut A::Desk,
@@ -169,8 +169,9 @@ pub fn process_lines<A: LineProcessor, S: Source, K: Sink>(
 ) -> Result<(), LinesFault>
     requires { A.fits 1 desk.old }
     // What was read and sent. On success: the whole input was read, and the output of all lines was sent. On `Bad`: the
-    // output of the lines before the refused one, and the cause. On `ReadFault`: the output of the lines that were read
-    // in full. On `WriteFault`: a prefix of the whole output. On `Memory`: the output of some of the first lines.
+    // output of the lines before the refused one, and the report of the refusal. On `ReadFault`: the output of the
+    // lines that were read in full. On `WriteFault`: a prefix of the whole output. On `Memory`: the output of the first
+    // lines, up to some line.
     ensures lines { TakesLines A.line_result desk.old result (S.left source.old) (S.left source.new) (K.sent sink.old) (K.sent sink.new) }
 
     // On success the input has ended, and `desk` is the state after all of its lines.
@@ -181,7 +182,7 @@ pub fn process_lines<A: LineProcessor, S: Source, K: Sink>(
     // On success the state after all lines satisfies `fits` for some line number of at most 1,000,001.
     ensures room { OnOk result ((number : ℕ) × (number ≤ most_lines + 1) × A.fits number desk.new) }
 
-    // `ReadFault` and `WriteFault` occur only if the source or the sink failed.
+    // `ReadFault` occurs only if the source failed, and `WriteFault` only if the sink failed.
     ensures read { IsErrOf result LinesFault.ReadFault → Rose (S.faults source.old) (S.faults source.new) }
     ensures write { IsErrOf result LinesFault.WriteFault → Rose (K.faults sink.old) (K.faults sink.new) }
     ensures source_later { S.faults source.old ≤ S.faults source.new }
