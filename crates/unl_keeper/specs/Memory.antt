@@ -6,14 +6,14 @@ use Rattle.unl_keeper.specs.declared.refusal.KeepRefusal.TheVariants.{Fault, Mem
 use Rattle.unl_keeper.specs.declared.memory_keeper.KeepFail.{KeepFail}
 use Rattle.unl_keeper.specs.State.{KeeperState, MakerState}
 
--- the calls that are to fail, the number of calls so far, and the number of failed ones
+-- the calls that are to fail with `Fault`, the number of calls so far, and the number of those that failed with `Fault`
 pub record Counting : Type 0 where
   pub failing : List KeepFail
   pub calls : ℕ
   pub faults : ℕ
 
--- `None` if call number `call` succeeds. If it fails, whether it leaves its text: a failed `put` can write its text as a row after
--- the kept ones.
+-- What is planned for call number `call`, counted from 0: `None` if it does not fail, otherwise whether it leaves its text. A failed `put`
+-- can leave its text as a row after the kept ones.
 abbrev pub planned_failure : List KeepFail → ℕ → Option Bool
 planned_failure failing call = option_map (λ fail. fail.leaves) (find (λ fail. fail.call == call) failing)
 
@@ -29,14 +29,14 @@ after_call counting = record {
   faults = if is_some (planned_failure counting.failing counting.calls) then raised counting.faults else counting.faults;
 }
 
--- a keeper: whether it is open, its kept rows, the row that a failed put left after them, and its counts
+-- a memory keeper: whether it is open, its kept rows, the row that a failed put left after them, and its counts
 pub record MemoryKeeperState : Type 0 where
   pub opened : Bool
   pub kept : List (List ℕ)
   pub past : Option (List ℕ)
   pub counting : Counting
 
--- a new keeper whose calls listed in `failing` fail
+-- a new keeper, not open and without rows, whose calls listed in `failing` fail
 abbrev pub new_keeping : List KeepFail → MemoryKeeperState
 new_keeping failing = record { opened = false; kept = []; past = None; counting = record { failing = failing; calls = 0; faults = 0 } }
 
@@ -66,11 +66,11 @@ put_keeping text keeping = record {
   counting = after_call keeping.counting;
 }
 
--- the keeper after a `read`, or a failed `open`: only the counts change
+-- the keeper after a `read`, failed or not, or after a failed `open`: only the counts change
 abbrev pub read_keeping : MemoryKeeperState → MemoryKeeperState
 read_keeping keeping = record { opened = keeping.opened; kept = keeping.kept; past = keeping.past; counting = after_call keeping.counting }
 
--- the keeper after a failed `put`, which leaves its text if `leaves` of the failing call is true
+-- the keeper after a failed `put`: if `leaves` of the call is true, the text replaces any row that an earlier failed `put` left
 abbrev pub left_keeping : List ℕ → MemoryKeeperState → MemoryKeeperState
 left_keeping text keeping = record {
   opened = keeping.opened;
@@ -87,7 +87,7 @@ CallOutcome well failed old new (Ok answer) = (planned_failure old.counting.fail
 CallOutcome well failed old new (Err Fault) = IsSome (planned_failure old.counting.failing old.counting.calls) × (new ≡ failed)
 CallOutcome well failed old new (Err Memory) = new ≡ old
 
--- a maker: the kept rows of the keeper that it took back last, and its fault count
+-- a memory maker: the kept rows of the keeper that it took back last (none before that), and its fault count
 pub record MemoryMakerState : Type 0 where
   pub held : List (List ℕ)
   pub faults : ℕ

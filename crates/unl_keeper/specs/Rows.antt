@@ -5,6 +5,6 @@ use Rattle.std.specs.Prelude.{ℕ, List, [], ◌∷◌, ◌++◌, take, Option, 
 abbrev pub kept : ℕ → Option (List (List ℕ)) → Option (List (List ℕ))
 kept count rows = option_map (λ list. take count list) rows
 
--- the kept rows, then `text`
+-- the kept rows (the first `count`), then `text`
 abbrev pub with_row : ℕ → List ℕ → Option (List (List ℕ)) → Option (List (List ℕ))
 with_row count text rows = option_map (λ list. take count list ++ text ∷ []) rows

@@ -43,7 +43,8 @@ abbrev pub FailsToOpen : KeeperState → KeeperState → KeepRefusal → Type 0
 FailsToOpen old new Fault = new.count ≡ old.count
 FailsToOpen old new Memory = new ≡ old
 
--- The effect of `open`. Whether it succeeds or fails, the rows are unchanged, and a keeper that was open stays open.
+-- The effect of `open`. On success the keeper is open, and every row is kept. Whether it succeeds or fails, the rows are unchanged, and a
+-- keeper that was open stays open.
 pub record Opens (old : KeeperState) (result : Result ℕ KeepRefusal) (new : KeeperState) : Type 0 where
   pub opened : IfOk result (KeepsAll new)
   pub rows : new.rows ≡ old.rows
@@ -75,8 +76,8 @@ PutsRow text old (Err Memory) new = new ≡ old
 
 -- ---- a read
 
--- The effect of reading the row at `place`. At most the fault count changes. `None` is returned only if the rows are not
--- observable.
+-- The effect of reading the row at `place`, counted from 1, of an open keeper. On success the text of this row is returned, if the rows
+-- are observable. `None` is returned only if they are not. At most the fault count changes.
 pub record ReadsRow (place : ℕ) (old : KeeperState) (result : Result (Option (List ℕ)) KeepRefusal) (new : KeeperState) : Type 0 where
   pub opened : new.opened ≡ true
   pub counted : new.count ≡ old.count
@@ -87,8 +88,8 @@ pub record ReadsRow (place : ℕ) (old : KeeperState) (result : Result (Option (
 -- ---- a maker
 
 -- The state of a maker. `held` are the kept rows of the keeper that the maker took back last, if they are observable. Before the
--- maker takes back a keeper, `held` has no rows. `faults` is its fault count. It rises when a call fails with `Fault`, and when
--- the maker takes back a keeper whose fault count is above 0.
+-- maker takes back its first keeper, `held` has no rows. `faults` is the maker's fault count. It rises when a call fails with
+-- `Fault`, and when the maker takes back a keeper whose fault count is above 0.
 pub record MakerState : Type 0 where
   pub held : Option (List (List ℕ))
   pub faults : ℕ
@@ -100,7 +101,8 @@ pub record IsNewKeeper (held : Option (List (List ℕ))) (keeper : KeeperState) 
   pub faultless : keeper.faults ≡ 0
   pub empty : IfSome held (λ _. keeper.rows ≡ Some [])
 
--- the maker takes a keeper back: it holds the keeper's kept rows, and its fault count rises if the keeper's is above 0
+-- The maker takes a keeper back. It then holds the keeper's kept rows, if these and the rows held before are observable. Its fault count
+-- rises if the keeper's is above 0.
 pub record TakesBack (keeper : KeeperState) (old new : MakerState) : Type 0 where
   pub held : new.held ≡ option_and_then (λ _. kept_rows keeper) old.held
   pub faults : TakesFaults keeper.faults old.faults new.faults

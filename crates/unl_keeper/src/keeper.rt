@@ -30,7 +30,8 @@ pub trait Keeper {
     fn count(&self) -> u64
         ensures { result ≡ (state self.now).count };
 
-    /// Writes a text to the next row. The keeper must be open and keep fewer than 10,000,000 rows.
+    /// Writes a text to the row after the kept ones, replacing what a failed put left there. The keeper must be open
+    /// and keep fewer than 10,000,000 rows.
     ///
     /// # Errors
     ///
@@ -43,8 +44,8 @@ pub trait Keeper {
         requires room { (state self.old).count < 10000000 }
         ensures { PutsRow text.now (state self.old) result (state self.new) };
 
-    /// Returns the text of row `place`, which must be kept. It returns `None` only if the rows are not observable. The keeper
-    /// must be open.
+    /// Returns the text of row `place`, which must be kept. Returns `None` only if the rows are not observable. The
+    /// keeper must be open.
     ///
     /// # Errors
     ///

@@ -1,5 +1,5 @@
-//! A keeper (an append-only store of texts, one for each row) that is in memory. For tests of faults, its creator can
-//! list calls that fail.
+//! A keeper (an append-only store of texts, one text per row) in memory. For tests of faults, its creator can list
+//! calls that fail.
 ghost use Rattle.std.specs.Prelude.{◌<◌, true, ◌+◌, ◌≡◌, [], ◌∷◌, ◌++◌, ◌-◌, ◌≤◌, None, Some, false, length, slice_get, IfOk, IfErr};
 ghost use Rattle.std.specs.Prelude.{OnOk, is_some, if◌then◌else◌};
 ghost use Rattle.unl_keeper.specs.Faults.{KeeperHasCause, CountRose};
@@ -24,7 +24,7 @@ pub struct KeepFail {
     pub leaves: bool,
 }
 
-/// Counts the calls and the faults, and knows which calls fail.
+/// Counts the calls and the faults, and lists the calls that are to fail.
 #[derive(Debug, Drop)]
 struct Calls {
     failing: List<KeepFail>,
@@ -149,7 +149,7 @@ impl MemoryKeeper {
         Ok(())
     }
 
-    /// If `leaves`, stores `row` in `past`, the row that a failed put wrote and that is not among the kept rows. Otherwise
+    /// If `leaves`, stores `row` in `past`, which has the row that a failed put left after the kept rows. Otherwise
     /// does nothing.
     fn leave(&mut self, leaves: bool, row: Text)
         ensures { self.new ≡ record self.old { past = if leaves then Some row else self.old.past } }

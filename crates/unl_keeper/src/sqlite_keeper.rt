@@ -1,4 +1,4 @@
-//! A keeper over a SQLite database.
+//! A keeper (an append-only store of texts, one text per row) over a SQLite database.
 ghost use Rattle.std.specs.Prelude.{◌≡◌, ◌↔◌, false};
 ghost use Rattle.unl_keeper.specs.Faults.{CountRose};
 
@@ -9,12 +9,12 @@ use std::alloc::Global;
 use std::marker::Model;
 use unl_documents::Text;
 
-/// A keeper whose rows are those of the table `kept(place INTEGER PRIMARY KEY, text TEXT NOT NULL)`. `open` creates the table
-/// if it does not exist. Contracts do not describe the rows. They describe only whether the keeper is open, the number
-/// of kept rows and the fault count.
+/// A keeper whose rows are those of the table `kept(place INTEGER PRIMARY KEY, text TEXT NOT NULL)`. `open` creates the
+/// table if it does not exist. Contracts do not describe the rows. They describe only whether the keeper is open, the
+/// number of kept rows and the fault count.
 ///
-/// Each put is one upsert at the row after the greatest `place`, so it replaces what a failed put left. The connection must
-/// not be in a transaction, or a put commits nothing.
+/// Each put is one upsert at the `place` after the kept rows, so it replaces what a failed put left there. The
+/// connection must not be in a transaction, or a put commits nothing.
 ///
 /// A statement that fails for any reason other than out of memory is a fault. A greatest `place` below 1 is a fault
 /// too, and so is a row that does not hold text. A missing row is not a fault.
@@ -79,14 +79,14 @@ fn write<D: Alter>(connection: &mut Connection<D>, place: i64, text: &str) -> Re
     )
 }
 
-/// Returns the text at `place`.
+/// Returns the text at `place`. The error is `QueryReturnedNoRows` if there is no such row.
 fn select<D: Alter>(connection: &mut Connection<D>, place: i64) -> Result<String, Error> {
     connection
         .query_row("SELECT text FROM kept WHERE place = ?1", params![place])?
         .get(0)
 }
 
-/// Creates the table if needed and returns the number of kept rows, which is taken from the greatest `place`.
+/// Creates the table if needed and returns the number of kept rows: the greatest `place`, or 0 if the table is empty.
 fn rows_of<D: Alter>(connection: &mut Connection<D>) -> Result<u64, KeepRefusal> {
     if let Err(error) = create(connection) {
         return Err(refusal(error));

@@ -1,4 +1,4 @@
-//! A factory of keepers over SQLite databases in memory.
+//! A maker of keepers over SQLite databases in memory.
 ghost use Rattle.std.specs.Prelude.{◌≡◌};
 
 use crate::maker::KeepMaker;
@@ -8,9 +8,8 @@ use sqlite::{Connection, MemStore};
 use std::alloc::Global;
 use std::marker::Model;
 
-/// Creates keepers, each over its own database in memory. The rows of a keeper are not observable after `back` takes it
-/// back, so the contracts describe a maker by its fault count alone: the number of keepers taken back whose own fault
-/// count was above 0.
+/// Creates keepers, each over its own database in memory. The rows of a database are not observable, so contracts
+/// describe a maker by its fault count alone: the number of keepers taken back whose own fault count was above 0.
 #[derive(Debug, Drop)]
 pub struct SqliteMaker {
     faults: u64,
