@@ -1,4 +1,4 @@
--- Counting the asks one by one.
+-- Counting, one by one, the asks whose feature is on. An ask is one evaluation of a feature for a user.
 use Rattle.std.proofs.Common.{◌≡◌, ◌∙◌, ◌<◌, ◌≤◌, ◌+◌, ◌-◌, ◌%◌, ℕ, suc, Bool, true, false, cond, [], ◌∷◌, refl, sym, ap, arith}
 use Rattle.std.proofs.lemmas.List.Sums.{sum_by-cons}
 use Rattle.std.specs.List.{count_by}
@@ -7,7 +7,8 @@ use Rattle.unl_documents.specs.declared.state.State.{State}
 use Rattle.unl_load.specs.Input.{ask_by, asks, is_on_for}
 use Rattle.unl_load.specs.Words.{next_word, next}
 
--- the count so far plus the count of the remaining asks is the total count
+-- after `asked` of `count` asks: `on`, the number of those that were on, plus the number of the remaining asks that are on, is the number
+-- of all asks that are on
 pub record Counts (state : State) (words : Lcg) (count asked on : ℕ) (left : Lcg) : Type 0 where
   pub all : on + count_by (is_on_for state) (asks (count - asked) left) ≡ count_by (is_on_for state) (asks count words)
   pub most : on ≤ asked
@@ -39,7 +40,7 @@ counts_more state words count asked on left inside counts =
       most = one_more is on asked counts.most;
     }
 
--- one more ask, made from two words
+-- the same after one more ask, which is made from the next two words
 pub counts_next : (state : State) (words : Lcg) (count asked on on_after feature user : ℕ) (left between after : Lcg) (is : Bool)
     → asked < count → Counts state words count asked on left → feature ≡ next_word left → between ≡ next left → user ≡ next_word between
     → after ≡ next between → is ≡ is_on_for state (record { feature = feature % 1000; user = user })
@@ -51,7 +52,7 @@ none_left : (words : Lcg) → asks 0 words ≡ []
 unfolding asks
 none_left words = refl
 
--- after all asks, the count is the total count
+-- after all asks, `on` is the number of asks that are on
 pub all_counted : (state : State) (words : Lcg) (count asked on : ℕ) (left : Lcg) → count ≤ asked → Counts state words count asked on left
     → on ≡ count_by (is_on_for state) (asks count words)
 all_counted state words count asked on left over counts =

@@ -19,7 +19,7 @@ use Rattle.unl_load.proofs.Names.{name_rises}
 
 -- ---- the names
 
--- a name in four digits, as it is printed
+-- the printed name: `f` and each of the last four digits of the index
 pub digits : (place : ℕ)
     → codes "f" ++ (decimal (place / 1000 % 10) ++ (decimal (place / 100 % 10) ++ (decimal (place / 10 % 10) ++ decimal (place % 10)))) ≡ name_of place
 unfolding name_of

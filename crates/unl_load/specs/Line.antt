@@ -1,4 +1,4 @@
--- The line that the command `load` writes. An ask is one evaluation of a feature for a context.
+-- The line that the command `load` writes. An ask is one evaluation of a feature for a user.
 use Rattle.std.specs.Prelude.{ℕ, ◌-◌, List, ◌++◌, codes, decimal}
 use Rattle.std.specs.List.{count_by}
 use Rattle.unl_load.specs.Input.{asks_of, is_on_for, generated_state}

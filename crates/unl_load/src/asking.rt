@@ -38,7 +38,7 @@ pub(crate) fn count_on(
     Ok(on)
 }
 
-/// Returns the count, incremented if `counts` is set.
+/// Returns `count`, plus one if `counts` is true.
 fn counted(count: u64, counts: bool) -> u64
     requires { count + 1 < 2 ^ 64 }
     ensures { result ≡ (if counts then 1 + count else count) }
@@ -46,8 +46,8 @@ fn counted(count: u64, counts: bool) -> u64
     if counts { count + 1 } else { count }
 }
 
-/// Returns whether the feature with this index is on for the user with this number, at time 0 with random word 0.
-/// Returns `false` if the snapshot lacks the feature.
+/// Returns whether the feature with this index is on for the user with this number, at time 0 with random word 0, on a
+/// host without a name. Returns `false` if the snapshot lacks the feature.
 #[tactic(auto, unfolding(crate::specs::Input::is_on_for))]
 fn is_on_for(alloc: Global, snapshot: &Snapshot, feature: u32, user: u32) -> Result<bool, Memory>
     ensures { IfOk result (λ on. on ≡ is_on_for snapshot.now.state (record { feature = feature; user = user })) }

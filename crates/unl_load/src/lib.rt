@@ -1,5 +1,5 @@
-//! The command `load`: generates 1,000 features from a seed, makes a given number of evaluations, each of a random one of
-//! these features for a random user, and writes one line that says how many features were on and how many off.
+//! The command `load`: generates 1,000 features from a seed, makes a given number of evaluations, each of a random one
+//! of these features for a random user, and writes one line that says how many evaluations were on and how many off.
 #![tactic(auto)]
 
 mod asking;

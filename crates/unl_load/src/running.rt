@@ -17,8 +17,8 @@ use unl_documents::Memory;
 /// off. The command line allows a count of 1 to 1,000,000.
 ///
 /// The seed starts a random number generator. The first 1,000 words of the generator make one feature each. Each ask
-/// then takes two words: one selects the feature, the other is the number of the user. The feature is evaluated at time 0
-/// with random word 0. The same seed and count always give the same line.
+/// then takes two words: the first selects the feature, the second is the number of the user. The feature is evaluated
+/// at time 0 with random word 0. The same seed and count always give the same line.
 ///
 /// # Errors
 /// `WriteFault` if the sink fails: a prefix of the line was written. `Memory` if out of memory: nothing was written.
