@@ -1,4 +1,4 @@
--- The code of `acknowledged` removes a range of rows. This is `acknowledge`, and the result is a valid book.
+-- The range of rows that the code of `acknowledged` removes is what `acknowledge` drops, and a valid book is left.
 use Rattle.std.proofs.Common.{◌≡◌, ℕ, zero, suc, ◌+◌, ◌≤◌, min, Bool, true, false, cond, not, ◌&&◌, T, List, [], ◌∷◌, length, drop, refl, sym, subst, ap, ◌∙◌, nat_cmp, nat_lt, arith}
 use Rattle.std.proofs.lemmas.Bool.Decides.{nat_tests}
 use Rattle.std.proofs.lemmas.Cmp.{nat_list_cmp_total}

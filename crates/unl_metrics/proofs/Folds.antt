@@ -11,7 +11,7 @@ fold_more f b next total xs i x lt is adds so_far =
 pub fold_done : {A B : Type 0} (f : B → A → B) (b total : B) (xs : List A) (i : ℕ) → length xs ≤ i → fold f b (drop i xs) ≡ total → b ≡ total
 fold_done f b total xs i le so_far = rw (drop_all i xs le) at so_far
 
--- The same for a loop that adds a function of each item.
+-- The same for a loop that adds a function `g` of each item.
 pub map_more : {A B C : Type 0} (f : B → C → B) (g : A → C) (b next total : B) (xs : List A) (i : ℕ) (x : A) → i < length xs → x ≡ get_or xs i x → next ≡ f b (g x) → fold f b (drop i (map g xs)) ≡ total → fold f next (drop (i + 1) (map g xs)) ≡ total
 map_more f g b next total xs i x lt is adds so_far =
     fold_more f b next total (map g xs) i (g x) (omega (arith, length-map xs g)) (ap g is ∙ sym (get_or-map g xs i x)) adds so_far

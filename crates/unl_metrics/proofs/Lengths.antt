@@ -100,7 +100,7 @@ longer_is rows i n before comma values e lt is so_far text all mark =
     let comma_is_same : comma ≡ cond (nat_eq (length (take i rows)) 0) 0 1 = rw (len, ← all) mark in
     rw prefix (rw (so_far, text, comma_is_same) (sym (one_more (take i rows) e)))
 
--- If a list has the same images as the first i items of another list, its length is at most that of the other list.
+-- If a list has the same images as the first i items of another list, it is not longer than the other list.
 pub within : {A B C : Type 0} (f : A → C) (g : B → C) (xs : List A) (ys : List B) (i n : ℕ) → map f xs ≡ map g (take i ys) → length xs ≡ n → n ≤ length ys
 within f g xs ys i n same all =
     let len : length xs ≡ length (take i ys) = sym (length-map xs f) ∙ ap length same ∙ length-map (take i ys) g in

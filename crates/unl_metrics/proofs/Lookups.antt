@@ -1,4 +1,4 @@
--- The value at a key in the sum of two books is the sum of the values at that key.
+-- The tally at a key in the sum of two books is the sum of their tallies at that key.
 use Rattle.std.proofs.Common.{◌≡◌, ℕ, true, false, cond, T, List, [], ◌∷◌, map, fold, refl, sym, subst, ap, ◌∙◌, nat_cmp}
 use Rattle.std.proofs.lemmas.Cmp.{nat_list_cmp_total}
 use Rattle.std.specs.Cmp.{IsTotalOrder}

@@ -1,4 +1,4 @@
--- A bulk report that is sent from a book is read back as the entries of its keys.
+-- A bulk report that is written from entries is read back as these entries.
 use Rattle.std.proofs.Common.{◌≡◌, ℕ, suc, ◌*◌, ◌/◌, ◌≤◌, true, false, eqb, ltb, List, [], ◌∷◌, ◌++◌, length, map, append_assoc, nat_cmp, nat_lt, Less, Greater, Ok, refl, sym, ap, subst, ◌∙◌, arith}
 use Rattle.std.proofs.lemmas.Bool.{le-ltb}
 use Rattle.std.proofs.lemmas.Bool.Decides.{nat_tests}

@@ -25,14 +25,14 @@ use Rattle.unl_metrics.proofs.Entries.{each_true, first_of, second_of, less}
 use Rattle.unl_metrics.proofs.RoundTrip.{text_back}
 use Rattle.unl_metrics.proofs.Sending.{entries_again}
 
--- The variant's name is within the limits of names.
+-- The name in a pair of a variant's name and count is within the limits of names.
 abbrev IsCalled : List ℕ × ℕ → Type 0
 IsCalled v = IsName v.0
 
 -- ---- finite maps
 
--- If a property holds for all entries and for a new entry, and an entry keeps it with the new value, then it holds for all
--- entries after the new one is put in.
+-- If a property holds for all entries and for a new entry, and still holds for an entry that gets the new entry's value, then it holds for
+-- all entries after the new one is put in.
 all_put : {K X : Type 0} (R : K → K → Ordering) (P : K × X → Type 0) (k : K) (x : X) (es : List (K × X)) → All P es → P (k, x) → ((e : K × X) → P e → P (e.0, x)) → All P (put R k x es)
 all_put R P k x [] each this moved = All-cons P (k, x) [] this each
 all_put R P k x (e ∷ es) each this moved = elim (R k e.0) as (λ r. All P (by_order r ((k, x) ∷ e ∷ es) ((e.0, x) ∷ es) (e ∷ put R k x es))) [

@@ -1,4 +1,4 @@
--- When a bulk report is sent from a book, and its keys as the entries of a report.
+-- When a bulk report is sent from a book, and how the keys that are sent are the entries of a report.
 use Rattle.std.proofs.Common.{◌≡◌, ◌↔◌, ℕ, ◌<◌, true, false, cond, T, List, [], ◌∷◌, map, take, length, refl, sym, subst, ap, ◌∙◌, arith}
 use Rattle.std.specs.Cmp.Lexicographic.{bytes_decides}
 use Rattle.std.proofs.lemmas.List.Elements.{All-cons, All-head, All-tail, All-nil}

@@ -72,7 +72,7 @@ tally_sum s t = record { yes = sum s.yes t.yes; no = sum s.no t.no; variants = f
 abbrev pub with_tally : Book → MetricKey × Tally → Book
 with_tally = with_entry key_cmp tally_sum
 
--- A book after the entries of another book are added, one by one.
+-- A book after the entries of a list are added, one by one. The list may have a key several times, and need not be in order.
 unfoldable pub sum_of : Book → Book → Book
 sum_of book others = fold with_tally book others
 
@@ -80,19 +80,19 @@ sum_of book others = fold with_tally book others
 abbrev pub pair : VariantCount → List ℕ × ℕ
 pair v = (v.name, v.count)
 
--- An entry's key, in an environment.
+-- The key of a report's entry, in an environment.
 abbrev pub key_of : List ℕ → MetricEntry → MetricKey
 key_of environment e = record { environment = environment; app = e.app; feature = e.feature; hour = e.hour }
 
--- An entry's tally.
+-- The tally of a report's entry.
 abbrev pub tally_of : MetricEntry → Tally
 tally_of e = record { yes = e.yes; no = e.no; variants = map pair e.variants }
 
--- An entry's key in an environment, and its tally.
+-- The key of a report's entry in an environment, and the entry's tally.
 abbrev pub counted : List ℕ → MetricEntry → MetricKey × Tally
 counted environment e = (key_of environment e, tally_of e)
 
--- A book after a report is added, for an environment.
+-- A book after the entries of a report are added, for an environment.
 unfoldable pub book_sum : Book → List ℕ → Report → Book
 book_sum book environment report = sum_of book (map (counted environment) report.entries)
 
@@ -102,7 +102,7 @@ book_sum book environment report = sum_of book (map (counted environment) report
 abbrev pub tally_at : MetricKey → Book → Option Tally
 tally_at = find key_cmp
 
--- A variant's count, if there is one.
+-- A variant's count, if the variant has one.
 abbrev pub count_at : List ℕ → Variants → Option ℕ
 count_at = find (slice_cmp nat_cmp)
 
@@ -110,16 +110,17 @@ count_at = find (slice_cmp nat_cmp)
 abbrev pub tallies_at : MetricKey → Book → List Tally
 tallies_at key others = map (λ e. e.1) (where_key key_cmp (eq_by_cmp key_cmp key) others)
 
--- The sum of an optional value and a value.
+-- The sum of an optional value and a value: the value itself if there is no other.
 abbrev pub and_more : {X : Type 0} → (X → X → X) → Option X → X → Option X
 and_more plus before x = Some (added plus before x)
 
--- The sum of two optional values. If one of them is missing, the sum is the other one.
+-- The sum of two optional values. If one of them is absent, the sum is the other one; if both are, there is none.
 abbrev pub sum_of_both : {X : Type 0} → (X → X → X) → Option X → Option X → Option X
 sum_of_both plus before None = before
 sum_of_both plus before (Some x) = and_more plus before x
 
--- The number of keys at the start of the list that come before a key.
+-- The position of a key in a list in ascending order, or where it would be inserted: the number of entries at the start of the list whose
+-- keys come before the key.
 abbrev pub place : {K X : Type 0} → (K → K → Ordering) → K → List (K × X) → ℕ
 place order k entries = prefix_len (λ e. is_lt (order e.0 k)) entries
 
@@ -137,17 +138,17 @@ fits book = nat_le (length book) 10000 && list_all has_few_variants book
 abbrev pub if_fits : Book → Result Book AddRefusal
 if_fits book = if fits book then Ok book else Err Full
 
--- A valid entry: its hour is in the years 1970 to 9999, and its variants are in byte order of names, each name once.
+-- A valid key and tally: the key's hour is in the years 1970 to 9999, and the tally's variants are in byte order of names, each name once.
 pub record IsCounted (entry : MetricKey × Tally) : Type 0 where
   pub hour : entry.0.hour < hours_of_years
   pub variants : T (is_sorted (slice_cmp nat_cmp) entry.1.variants)
 
--- The keys are in ascending order, each once, and each entry is valid.
+-- The keys are in ascending order, each once, and each key and its tally are valid.
 pub record HasOrderedKeys (book : Book) : Type 0 where
   pub rising : T (is_sorted key_cmp book)
   pub each : All IsCounted book
 
--- A valid book: the keys are in ascending order, each once, each entry is valid, and the limits are met.
+-- A valid book: the keys are in ascending order, each once, each key and its tally are valid, and the limits are met.
 pub record IsMetricsBook (book : Book) : Type 0 where
   pub order : HasOrderedKeys book
   pub fit : fits book ≡ true
@@ -158,11 +159,11 @@ pub record IsMetricsBook (book : Book) : Type 0 where
 abbrev pub is_of : List ℕ → MetricKey → Bool
 is_of environment key = bytes_eq key.environment environment
 
--- The entries of a book in an environment.
+-- The keys of a book in an environment, with their tallies.
 abbrev pub counted_in : List ℕ → Book → Book
 counted_in environment book = where_key key_cmp (is_of environment) book
 
--- The book without the first `count` keys of an environment.
+-- The book without the first `count` keys of an environment, or without all of its keys if there are fewer.
 unfoldable pub acknowledge : List ℕ → ℕ → Book → Book
 acknowledge environment zero book = book
 acknowledge environment (suc count) [] = []

@@ -19,7 +19,7 @@ with_counts (v ∷ variants) members = with_counts variants (put v.0 (count v.1)
 unfoldable pub variants_data : Variants → Data
 variants_data variants = object (with_counts variants no_members)
 
--- A key and its tally as JSON.
+-- A key and its tally as JSON: an item of a bulk report.
 unfoldable pub counted_data : MetricKey × Tally → Data
 counted_data (key, tally) = object (
     with field.AppName (string key.app) (
@@ -44,11 +44,11 @@ bulk_data book = bulk_of_items (items_of (map counted_data book))
 
 -- ---- the limit of its length
 
--- The longest bulk report, in bytes.
+-- The greatest length of a bulk report's text, in bytes.
 abbrev pub longest_bulk : ℕ
 longest_bulk = 1048576
 
--- The length of a bulk report's text, in bytes.
+-- The length of the text of the bulk report of these keys, in bytes.
 unfoldable pub bulk_length : Book → ℕ
 bulk_length book = length (compact_text (bulk_data book))
 
@@ -61,7 +61,7 @@ greatest passes (suc n) = if passes (suc n) then suc n else greatest passes n
 unfoldable pub room_for : Book → ℕ
 room_for book = greatest (λ n. nat_le (bulk_length (take n book)) longest_bulk) (length book)
 
--- The bulk report of the keys that fit, and the number of these keys. `None` if there is no key.
+-- The bulk report of the longest prefix of the keys that fits, and the number of keys in it. `None` if there is no key.
 abbrev pub bulk_report : Book → Option (Data × ℕ)
 bulk_report [] = None
 bulk_report (e ∷ book) = Some (bulk_data (take (room_for (e ∷ book)) (e ∷ book)), room_for (e ∷ book))

@@ -11,7 +11,8 @@ hours_of_years = 70389528
 abbrev pub if_of_years : ℕ → Option ℕ
 if_of_years hour = if nat_lt hour hours_of_years then Some hour else None
 
--- The hour of an instant, which is given in nanoseconds since 1970. `None` if it is not in the years 1970 to 9999.
+-- The hour of an instant, in whole hours since 1970. The instant is given in nanoseconds since 1970. `None` if the instant is not in the
+-- years 1970 to 9999.
 unfoldable pub hour_of : ℤ → Option ℕ
 hour_of (pos nanoseconds) = if_of_years (nanoseconds / 3600000000000)
 hour_of (negsuc n) = None
@@ -53,6 +54,6 @@ year_text (year, days) = four_digits year ++ 45 ∷ month_text (month_and_days y
 unfoldable pub date_text : ℕ → List ℕ
 date_text days = year_text (year_and_days 8030 1970 days)
 
--- The hour as `YYYY-MM-DDTHH:00:00Z`.
+-- The text of an hour (given in whole hours since 1970), `YYYY-MM-DDTHH:00:00Z`.
 unfoldable pub hour_text : ℕ → List ℕ
 hour_text hour = date_text (hour / 24) ++ 84 ∷ two_digits (hour % 24) ++ codes ":00:00Z"

@@ -9,20 +9,20 @@ use Rattle.unl_metrics.specs.declared.report.VariantCount.{VariantCount}
 use Rattle.unl_metrics.specs.Book.{Book, MetricKey, Tally}
 use Rattle.unl_metrics.specs.Reports.{bulk_report_of}
 
--- The latest hour that can be read from a text: that of 9999-12-30T22:00:00Z, where the timestamps of `jiff` end.
+-- The latest hour that can be read from a text: that of 9999-12-30T22:00:00Z. Its first second is the last that `jiff` reads.
 abbrev pub last_hour : ℕ
 last_hour = 70389502
 
--- The variant's name is within the limits of names.
+-- The variant's name is within the limits of names: it has 1 to 255 bytes.
 abbrev pub HasValidName : VariantCount → Type 0
 HasValidName v = IsName v.name
 
--- At most 100 variants, whose names are within their limits and in byte order.
+-- At most 100 variants, whose names are within the limits of names and in byte order, each name once.
 pub record AreVariants (variants : List VariantCount) : Type 0 where
   pub rising : AreRising (map (λ v. v.name) variants)
   pub names : IsListOf 100 HasValidName variants
 
--- An entry as it is read: names within their limits, and an hour that can be read.
+-- An entry as it is read: names within the limits of names, an hour that can be read, and at most 100 variants.
 pub record IsReadable (e : MetricEntry) : Type 0 where
   pub app : IsName e.app
   pub feature : IsName e.feature
@@ -46,13 +46,13 @@ entry_at (key, tally) =
 abbrev pub entries_at : Book → List MetricEntry
 entries_at book = map entry_at book
 
--- A key and its tally that can be sent and read back: names within their limits, and an hour that can be read.
+-- A key and its tally that can be sent and read back: names within the limits of names, and an hour that can be read.
 pub record IsSendable (e : MetricKey × Tally) : Type 0 where
   pub app : IsName e.0.app
   pub feature : IsName e.0.feature
   pub hour : e.0.hour ≤ last_hour
   pub variants : All (λ v. IsName v.0) e.1.variants
 
--- Bytes that are the JSON of the value are read as the bulk report of these entries.
+-- Bytes that are a JSON text of the value are read as the bulk report of these entries.
 abbrev pub IsReadAs : Data → List MetricEntry → Type 0
 IsReadAs value entries = (bytes : List ℕ) → json_of bytes ≡ Some value → bulk_report_of bytes ≡ Ok (record { entries = entries })

@@ -33,8 +33,8 @@ IsReport report = All IsEntry report.entries
 
 -- ---- kinds
 
--- The hour of an instant that is given as a text, in whole hours since 1970. `WrongKind` if the text is no instant, or the instant is
--- not in the years 1970 to 9999.
+-- The hour of an instant that is given as a text, in whole hours since 1970. `WrongKind` if the value is not a text, the text is not an
+-- instant, or the instant is not in the years 1970 to 9999.
 unfoldable pub hour : Field → Data → Reading ℕ
 hour key value = do
   text ← any_text key value
@@ -48,7 +48,8 @@ each_member kind (member key value inside) = do
   others ← each_member kind inside
   Ok (first ∷ others)
 
--- Reads an object of at most `most` members, each of them by `kind`.
+-- Reads an object of at most `most` members, each of them by `kind`. `WrongKind` if the value is not an object, `TooLarge` if it has more
+-- members. Both are checked before any member is read.
 unfoldable pub members : {T : Type 0} → ℕ → (Field → List ℕ → Data → Reading T) → Field → Data → Reading (List T)
 members most kind key value = do
   inside ← ok_or (as_object value) (document_fault.WrongKind key)
@@ -63,7 +64,7 @@ variant_count key name value = do
 
 -- ---- reports
 
--- The counts of a feature in an app and an hour, from an object.
+-- The counts of a feature in an app and an hour, from an object. Absent and null keys count as 0 or as no variants.
 unfoldable pub entry_of : List ℕ → List ℕ → ℕ → Data → Reading MetricEntry
 entry_of app feature at value = do
   ons ← defaulted 0 any_whole field.Yes value
@@ -77,20 +78,20 @@ toggle_of app at key feature value = do
   named ← name_of key feature
   object_of (entry_of app named at) key value
 
--- The entries of an app's bucket: its start, which gives the hour, and its toggles.
+-- The entries of an app's bucket: its start is required and gives the hour; its toggles default to none.
 unfoldable pub bucket_of : List ℕ → Data → Reading (List MetricEntry)
 bucket_of app value = do
   at ← required hour field.Start value
   defaulted [] (members 10000 (toggle_of app at)) field.Toggles value
 
--- The report that one app sends.
+-- The report that one app sends: its name and its bucket, both required.
 unfoldable pub single_of : Data → Reading Report
 single_of value = do
   app ← required name field.AppName value
   entries ← required (object_of (bucket_of app)) field.Bucket value
   Ok (record { entries = entries })
 
--- The entry of one item of a bulk report.
+-- The entry of one item of a bulk report. The feature's name, the app's name and the timestamp are required.
 unfoldable pub bulk_entry_of : Data → Reading MetricEntry
 bulk_entry_of value = do
   feature ← required name field.FeatureName value
@@ -98,7 +99,7 @@ bulk_entry_of value = do
   at ← required hour field.Timestamp value
   entry_of app feature at value
 
--- The bulk report that an edge sends for its apps.
+-- The bulk report that an edge sends for its apps: at most 10,000 items.
 unfoldable pub bulk_of : Data → Reading Report
 bulk_of value = do
   entries ← required (objects 10000 bulk_entry_of) field.Metrics value
@@ -110,7 +111,7 @@ bulk_of value = do
 abbrev pub ReportReading : Type 0
 ReportReading = Result Report BadReport
 
--- The report fault for a document fault. A duplicate name and a count that is no whole number are `WrongKind`.
+-- The report fault for a document fault. A duplicate name and a count that is not a whole number are `WrongKind`.
 abbrev pub report_fault : BadDocument → BadReport
 report_fault document_fault.NotJson = NotJson
 report_fault (document_fault.Missing key) = Missing key
@@ -125,7 +126,7 @@ abbrev pub as_report : Reading Report → ReportReading
 as_report (Ok report) = Ok report
 as_report (Err e) = Err (report_fault e)
 
--- Parses the bytes as a JSON object and reads the report from it by `reads`. Bytes that are no JSON object are `NotJson`.
+-- Parses the bytes as a JSON object and reads the report from it by `reads`. Bytes that are not a JSON object are `NotJson`.
 abbrev pub report_in : (Data → Reading Report) → List ℕ → ReportReading
 report_in reads bytes = as_report (ok_or (object_in bytes) document_fault.NotJson >>= reads)
 

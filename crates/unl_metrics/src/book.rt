@@ -20,9 +20,9 @@ use std::alloc::Global;
 use std::marker::Model;
 use unl_documents::{Memory, Shared};
 
-/// Counts of feature evaluations. A key is an environment, an app, a feature and an hour. A tally has the counts at a
-/// key. The book holds at most 10,000 keys, with at most 100 variants each. In contracts it is the list of its keys in
-/// ascending order, each with its tally.
+/// Counts of feature evaluations. A key is an environment, an app, a feature and an hour. A tally has the counts at one
+/// key. The book holds at most 10,000 keys, and at most 100 variants at each key. In contracts the book is the list of
+/// its keys in ascending order, each with its tally.
 #[derive(Drop)]
 pub struct MetricsBook {
     rows: Vec<Shared<Row>>,
@@ -65,7 +65,7 @@ impl MetricsBook {
     /// Adds all counts of a report, for an environment. Sums saturate at 2^64 - 1.
     ///
     /// # Errors
-    /// - `Full`: the sum would have more than 10,000 keys, or more than 100 variant names at one key.
+    /// - `Full`: the sum would have more than 10,000 keys, or more than 100 variants at one key.
     /// - `Memory`: out of memory.
     ///
     /// On an error nothing is added: the book is unchanged.
@@ -89,7 +89,7 @@ impl MetricsBook {
         Ok(())
     }
 
-    /// Moves all counts of another book into this one. The other book is then empty. Sums saturate at 2^64 - 1.
+    /// Moves all counts of another book into this one, which leaves the other book empty. Sums saturate at 2^64 - 1.
     ///
     /// # Errors
     /// As for [`MetricsBook::add`]. On an error both books are unchanged.
@@ -109,11 +109,13 @@ impl MetricsBook {
         Ok(())
     }
 
-    /// The bulk report of an environment, and the number of keys in it. `None` exactly if the environment has no key.
+    /// The bulk report of an environment, as a JSON value, and the number of keys in it. `None` exactly if the
+    /// environment has no key.
     ///
-    /// The report has the longest prefix of the environment's keys, in ascending order, for which the report's text is at most
-    /// 1,048,576 bytes. If all names and hours in the book are within the limits for reading a report,
-    /// [`Report::read_bulk`] reads the text back as the counts of these keys.
+    /// The report has the longest prefix of the environment's keys, in ascending order, for which the report's text is
+    /// at most 1,048,576 bytes. It has no key if the first key alone is too long. If the names of apps, features and
+    /// variants in the book and its hours are within the limits for reading a report, [`Report::read_bulk`] reads the
+    /// text back as the counts of the keys in the report.
     ///
     /// # Errors
     /// `Memory`: out of memory.
@@ -127,7 +129,8 @@ impl MetricsBook {
     }
 
     /// Drops the first `count` keys of an environment, or all of its keys if there are fewer. To be called when the
-    /// server has accepted a bulk report of `count` keys. Doesn't allocate.
+    /// upstream has accepted a bulk report of `count` keys, and the book has not changed since that report was made.
+    /// Doesn't allocate.
     pub fn acknowledged(&mut self, environment: &str, count: usize)
         ensures { self.new ≡ acknowledge environment.now count self.old }
     {

@@ -11,10 +11,10 @@ use std::alloc::Global;
 use unl_documents::to_value::{ToValue, put, put_value};
 use unl_documents::{Field, List, Memory, Shared, Text};
 
-/// The longest bulk report, in bytes.
+/// The greatest length of a bulk report's text, in bytes.
 const LONGEST: usize = 1_048_576;
 
-/// The length of a bulk report without rows, in bytes.
+/// The length of the text of a bulk report without rows, in bytes.
 const EMPTY: usize = 32;
 
 /// The rows of an environment. They are shared with `rows`, not copied.
@@ -34,7 +34,7 @@ fn rows_of(
     Ok(found)
 }
 
-/// The JSON of the longest prefix of the rows that fits into one bulk report.
+/// The JSON values of the rows in the longest prefix of `rows` that fits into one bulk report.
 fn fitting_values(alloc: Global, rows: &[Shared<Row>]) -> Result<Vec<Value>, Memory>
     requires { All IsCounted rows.now }
     ensures values { IfOk result (λ values. map view values.items ≡ map counted_data (take (room_for rows.now) rows.now)) }
@@ -63,7 +63,7 @@ fn length_of(alloc: Global, value: &Value) -> Result<usize, Memory>
     Ok(value.to_string(alloc)?.len())
 }
 
-/// The number of separator bytes before an item, given the number of items before it.
+/// The number of separator bytes before an item of the report, given the number of items before that item.
 fn comma(before: usize) -> usize
     ensures { result ≡ (if before == 0 then 0 else 1) }
 {
@@ -82,7 +82,8 @@ fn bulk_value(alloc: Global, values: Vec<Value>) -> Result<Value, Memory>
     Ok(Value::Object(members))
 }
 
-/// The bulk report of an environment and the number of keys in it, or `None` if the environment has no key.
+/// The bulk report of an environment, as a JSON value, and the number of keys in it, or `None` if the environment has
+/// no key.
 pub(crate) fn bulk(
     alloc: Global,
     rows: &[Shared<Row>],

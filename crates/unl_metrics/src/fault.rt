@@ -12,14 +12,16 @@ pub enum BadReport {
     /// Not JSON, or not an object.
     #[error("the report is not JSON")]
     NotJson,
-    /// The key is required and is absent or null, or its value must be a name but is empty.
+    /// A required key is absent or null, or a name is empty. The name is the value at the key or, at `toggles` or
+    /// `variants`, the key of a member of the object there.
     #[error("a required key is missing")]
     Missing(Field),
-    /// The value at the key is of the wrong kind. Includes a count that is not a whole number from 0 to 2^64 - 1,
-    /// and a text that is not an instant in the years 1970 to 9999.
+    /// The value at the key is of the wrong kind. Includes a count that is not a whole number from 0 to 2^64 - 1, and a
+    /// text that is not an instant from 1970 to 9999-12-30T22:00:00.999999999Z, the latest that `jiff` reads.
     #[error("a value is of the wrong kind")]
     WrongKind(Field),
-    /// The length or count at the key is above its limit. Carries that length or count.
+    /// A length or a number of items at the key is above its limit: 255 bytes of a name, 100 variants, 10,000 toggles
+    /// or metrics. Carries that length or number.
     #[error("a length or a number is too large: {1}")]
     TooLarge(Field, u64),
     /// Out of memory.

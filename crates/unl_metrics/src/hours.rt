@@ -13,8 +13,8 @@ use unl_constraints::read_instant;
 use unl_documents::kind::Kind;
 use unl_documents::{BadDocument, Field, Memory, Text};
 
-/// A document value that is the text of an instant in the years 1970 to 9999. Only the hour of the instant is kept, in
-/// whole hours since 1970.
+/// Reads a value that is the text of an instant from 1970 to 9999-12-30T22:00:00.999999999Z, the latest that `jiff`
+/// reads. Only the hour of the instant is kept, in whole hours since 1970. Any other value is `WrongKind`.
 pub(crate) struct Hour;
 
 impl Kind for Hour {
@@ -38,8 +38,8 @@ impl Kind for Hour {
     }
 }
 
-/// The hour of the instant in a text. `None` if the text is not an instant, or its instant is not in the years 1970 to
-/// 9999.
+/// The hour of the instant in a text, in whole hours since 1970. `None` if the text is not an instant that `jiff`
+/// reads, or its instant is before 1970.
 fn hour_in(alloc: Global, text: &str) -> Result<Option<u32>, Memory>
     ensures hour { IfOk result (λ hour. hour ≡ option_and_then hour_of (instant_of text.now)) }
     ensures below { IfOk result (λ hour. IfSome hour (λ h. h ≤ last_hour)) }
@@ -56,7 +56,8 @@ fn hour_of_text(alloc: Global, text: &str) -> Result<Option<u32>, Memory>
     }
 }
 
-/// The hour of an instant, which is given in nanoseconds since 1970. `None` if it is not in the years 1970 to 9999.
+/// The hour of an instant, in whole hours since 1970. The instant is given in nanoseconds since 1970. `None` if the
+/// instant is not in the years 1970 to 9999.
 #[tactic(auto, unfolding(crate::specs::Hours::hour_of))]
 fn hour_of(instant: i128) -> Option<u32>
     ensures { result ≡ hour_of instant }
@@ -72,7 +73,7 @@ fn hour_of(instant: i128) -> Option<u32>
     }
 }
 
-/// The date `days` days after 1970-01-01.
+/// The date `days` days after 1970-01-01, at most 9999-12-31.
 fn day_after(days: u32) -> Date
     requires { days < 2932897 }
     ensures { epoch_day result ≡ pos days }
@@ -81,7 +82,7 @@ fn day_after(days: u32) -> Date
     epoch.checked_add((days as i64).days()).unwrap()
 }
 
-/// The text of an hour, `YYYY-MM-DDTHH:00:00Z`.
+/// The text of an hour (given in whole hours since 1970), `YYYY-MM-DDTHH:00:00Z`.
 pub(crate) fn hour_text(alloc: Global, hour: u32) -> Result<Text, Memory>
     requires { hour < hours_of_years }
     ensures { IfOk result (λ t. t ≡ hour_text hour) }

@@ -12,13 +12,14 @@ ghost use Rattle.unl_metrics.specs.Book.{counted, counted_in, acknowledge, IsCou
 ghost use Rattle.unl_metrics.specs.Bulk.{bulk, bulk_data, bulk_length, longest_bulk, room_for};
 ghost use Rattle.unl_metrics.specs.Readable.{AreReadable, IsReadAs, IsSendable, entries_at};
 
-/// A book is a finite map: two books with the same tally at each key are equal.
+/// A book is a finite map: two books that have at each key the same tally, or both none, are equal.
 pub fn books_are_maps()
     ensures { (a b : Book) → HasOrderedKeys a → HasOrderedKeys b → ((key : MetricKey) → tally_at key a ≡ tally_at key b) → a ≡ b }
 {}
 
 /// The sum of two books has at each key the sum of both tallies, and the sum of two tallies has at each variant the sum
-/// of both counts.
+/// of both counts. If only one of them is there, the sum is that one. If the second book lists a key several times, all
+/// of these tallies are added. A sum keeps the keys in ascending order.
 pub fn sums_are_sums_at_each_key()
     ensures entries { (book others : Book) (key : MetricKey) → tally_at key (sum_of book others)
         ≡ fold (and_more tally_sum) (tally_at key book) (tallies_at key others) }
@@ -29,7 +30,8 @@ pub fn sums_are_sums_at_each_key()
     ensures order { (book others : Book) → HasOrderedKeys book → All IsCounted others → HasOrderedKeys (sum_of book others) }
 {}
 
-/// An acknowledgement drops the first keys of the environment, and no keys of other environments.
+/// An acknowledgement of `count` keys drops the first `count` keys of its environment, and no keys of other
+/// environments.
 pub fn acknowledged_keys_are_dropped()
     ensures these { (environment : List ℕ) (count : ℕ) (book : Book) → counted_in environment (acknowledge environment count book)
         ≡ drop count (counted_in environment book) }
@@ -37,16 +39,18 @@ pub fn acknowledged_keys_are_dropped()
         → counted_in other (acknowledge environment count book) ≡ counted_in other book }
 {}
 
-/// Nothing is sent exactly if the environment has no key. Otherwise the longest prefix of its keys for which
-/// the report's text is at most 1,048,576 bytes is sent.
+/// Nothing is sent exactly if the environment has no key. Otherwise the report that is sent has the longest prefix of
+/// the environment's keys for which the report's text is at most 1,048,576 bytes.
 pub fn the_longest_prefix_is_sent()
     ensures none { (environment : List ℕ) (book : Book) → (bulk environment book ≡ None) ↔ (counted_in environment book ≡ []) }
     ensures fits { (book : Book) → bulk_length (take (room_for book) book) ≤ longest_bulk }
     ensures longest { (book : Book) (n : ℕ) → room_for book < n → n ≤ length book → longest_bulk < bulk_length (take n book) }
 {}
 
-/// The counts of an environment can be turned into report entries and back. The bulk report of entries that can be
-/// read, or of a book that can be sent, is read as these same entries. A bulk report is nested at most 4 levels deep.
+/// The keys of an environment and their tallies can be turned into report entries and back. A bulk report of entries
+/// that are within the limits for reading is read as these same entries. If a book's names and hours are within these
+/// limits, the bulk report of the first keys of an environment is read as the entries of these keys. A bulk report is
+/// nested at most 4 levels deep.
 pub fn what_is_sent_is_read()
     ensures entries { (environment : List ℕ) (book : Book) → map (counted environment) (entries_at (counted_in environment book))
         ≡ counted_in environment book }
@@ -57,8 +61,9 @@ pub fn what_is_sent_is_read()
     ensures depth { (book : Book) → depth (bulk_data book) ≤ 4 }
 {}
 
-/// Entries that were read can be sent. If two books can be sent, so can their sum. If a book can be sent, so can the
-/// book after an acknowledgement.
+/// A book can be sent if its names and hours are within the limits for reading a report. Entries that were read can be
+/// sent. If two books can be sent, so can their sum. If a book can be sent, so can what an acknowledgement leaves of
+/// the book.
 pub fn what_is_read_may_be_sent()
     ensures entries { (environment : List ℕ) (entries : List MetricEntry) → AreReadable entries
         → All IsSendable (map (counted environment) entries) }

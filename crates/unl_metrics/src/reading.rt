@@ -20,7 +20,7 @@ use unl_documents::keys::{defaulted, required, value_at};
 use unl_documents::kind::{AnyWhole, Kind, Name, name_of};
 use unl_documents::{BadDocument, Field, List, Text, TryClone};
 
-/// A document value with the count of each variant: an object from names to whole numbers, with at most 100 members.
+/// Reads the counts of variants: an object from names to whole numbers, with at most 100 members.
 struct Variants;
 
 impl Kind for Variants {
@@ -86,7 +86,8 @@ fn variant_of(
     Ok(VariantCount { name, count })
 }
 
-/// Reads the counts of a feature in an app and an hour from an object.
+/// Reads the counts of a feature in an app and an hour from an object. Absent and null keys count as 0 or as no
+/// variants.
 #[tactic(auto, unfolding(crate::specs::Reports::entry_of))]
 fn entry_of(
     alloc: Global,
@@ -115,7 +116,8 @@ fn entry_of(
     })
 }
 
-/// Reads one toggle. First its key is checked, which is the feature's name, then its value, an object with counts.
+/// Reads one toggle. First its key is checked, which is the feature's name. Then its value is checked, which is an
+/// object with counts.
 #[tactic(auto, unfolding(crate::specs::Reports::toggle_of, unl_documents::specs::Kinds::object_of))]
 fn toggle_of(
     alloc: Global,
@@ -158,8 +160,8 @@ fn each_toggle(
     Ok(entries)
 }
 
-/// Reads the toggles of an app and an hour: an object from feature names to objects with counts, at most 10,000
-/// members.
+/// Reads the toggles of an app and an hour: an object from feature names to objects with counts, with at most 10,000
+/// members. The number of members is checked before any member is read.
 #[tactic(auto, unfolding(crate::specs::Reports::members))]
 fn toggles_of(
     alloc: Global,
@@ -183,7 +185,8 @@ fn toggles_of(
     each_toggle(alloc, app, hour, field, members)
 }
 
-/// Reads an app's bucket: its start, which gives the hour of all entries, and its toggles.
+/// Reads an app's bucket: its start, which is required and gives the hour of all entries, and its toggles, if there are
+/// any.
 #[tactic(auto, unfolding(crate::specs::Reports::bucket_of, unl_documents::specs::Kinds::defaulted))]
 fn bucket_of(alloc: Global, app: &Text, value: &Value) -> Result<List<MetricEntry>, BadDocument>
     requires { IsName app.now }
@@ -200,7 +203,7 @@ fn bucket_of(alloc: Global, app: &Text, value: &Value) -> Result<List<MetricEntr
 /// Reads the report that one app sends.
 ///
 /// # Errors
-/// The fault of the app's name, otherwise the first fault of its bucket. `Memory`: out of memory.
+/// The fault of the app's name, otherwise the first fault of the app's bucket. `Memory`: out of memory.
 #[tactic(auto, unfolding(crate::specs::Reports::single_of))]
 pub(crate) fn read_single(alloc: Global, value: &Value) -> Result<Report, BadDocument>
     ensures gives { Gives result (single_of (view value.now)) }
@@ -249,8 +252,8 @@ impl Document for MetricEntry {
 /// Reads the bulk report that an edge sends for its apps.
 ///
 /// # Errors
-/// The fault of the list of metrics, such as more than 10,000 entries, or the first fault of an entry. `Memory`: out of
-/// memory.
+/// The fault of the list `metrics`, such as more than 10,000 items, or else the first fault of an item. `Memory`: out
+/// of memory.
 #[tactic(auto, unfolding(crate::specs::Reports::bulk_of))]
 pub(crate) fn read_bulk(alloc: Global, value: &Value) -> Result<Report, BadDocument>
     ensures gives { Gives result (bulk_of (view value.now)) }

@@ -9,8 +9,8 @@ use unl_documents::Memory;
 /// Why nothing was added to a book.
 #[derive(Clone, Copy, Debug, PartialEq, Eq, Error)]
 pub enum AddRefusal {
-    /// With the new counts, the book would have more than 10,000 keys, or more than 100 variant names at one key. A key
-    /// is an environment, an app, a feature and an hour.
+    /// With the new counts, the book would have more than 10,000 keys, or more than 100 variants at one key. A key is
+    /// an environment, an app, a feature and an hour.
     #[error("the book is full")]
     Full,
     /// Out of memory.

@@ -16,7 +16,7 @@ use unl_documents::{List, Memory, Text, TryClone};
 pub struct VariantCount {
     /// The variant's name.
     pub name: Text,
-    /// How many times it was given.
+    /// How many times the variant was given.
     pub count: u64,
 }
 
@@ -27,13 +27,14 @@ pub struct MetricEntry {
     pub app: Text,
     /// The feature's name.
     pub feature: Text,
-    /// The hour, in whole hours since 1970. It is less than 70,389,528, which covers the years 1970 to 9999.
+    /// The hour, in whole hours since 1970. It is less than 70,389,528, the number of hours from 1970 to the end of
+    /// 9999.
     pub hour: u32,
     /// How many times the feature was on.
     pub yes: u64,
     /// How many times the feature was off.
     pub no: u64,
-    /// How many times each variant was given. In byte order of names, each name once.
+    /// How many times each variant was given, in byte order of the variants' names, each name once.
     pub variants: List<VariantCount>,
 }
 
@@ -48,15 +49,20 @@ impl Report {
     /// Reads the report that one app sends, from JSON:
     /// `{"appName":"..","bucket":{"start":"..","toggles":{"NAME":{"yes":0,"no":0,"variants":{"NAME":0}}}}}`.
     ///
-    /// `appName`, `bucket` and `start` are required. The other keys default to empty or 0. `start` is an instant in the
-    /// years 1970 to 9999; its hour is the hour of all entries. Each toggle gives one entry.
+    /// `appName`, `bucket` and `start` are required. `toggles`, `yes`, `no` and `variants` may be absent or null, which
+    /// counts as empty or 0. Other keys are ignored. `start` is an instant from 1970 to 9999-12-30T22:00:00.999999999Z,
+    /// the latest that `jiff` reads; its hour is the hour of all entries. Each toggle gives one entry. Names have 1 to
+    /// 255 bytes.
     ///
     /// # Errors
-    /// `NotJson`: the bytes are not a JSON object. `Memory`: out of memory. Otherwise the first fault at a key. The
-    /// keys are checked in this order: `appName`, `bucket`, in it `start` and `toggles`, and in each toggle `yes`, `no`
-    /// and `variants`. `toggles` may have at most 10,000 members, and `variants` at most 100 (`TooLarge`). This is
-    /// checked before the members. The members are checked in byte order of their keys. The key of a member must be a
-    /// valid name, and is checked before its value.
+    /// - `NotJson`: the bytes are not a JSON object.
+    /// - `Memory`: out of memory.
+    /// - Otherwise the first fault at a key. The keys are checked in this order: `appName`, `bucket`, in it `start`
+    ///   and then `toggles`, and in each toggle `yes`, `no` and `variants`.
+    ///
+    /// `toggles` has at most 10,000 members, and `variants` at most 100; otherwise the fault is `TooLarge`. The number
+    /// of members is checked before any member is read. Then the members are read in byte order of their keys. For each
+    /// member, first its key is checked, which must be a name, and then its value.
     pub fn read_single(alloc: Global, bytes: &[u8]) -> Result<Report, BadReport>
         ensures gives { Gives memory result (single_report_of bytes.now) }
         ensures valid { IfOk result IsReport }
@@ -68,13 +74,16 @@ impl Report {
     /// Reads the bulk report that an edge sends for its apps, from JSON:
     /// `{"metrics":[{"featureName":"..","appName":"..","timestamp":"..","yes":0,"no":0,"variants":{"NAME":0}}]}`.
     ///
-    /// `metrics` is required, and in each of its items `featureName`, `appName` and `timestamp`. The other keys default
-    /// to empty or 0. Each item gives one entry, at the hour of its `timestamp`, an instant in the years 1970 to 9999.
+    /// `metrics` is required, and in each of its items `featureName`, `appName` and `timestamp`. `yes`, `no` and
+    /// `variants` may be absent or null, which counts as 0 or empty. Other keys are ignored. Each item gives one entry,
+    /// at the hour of its `timestamp`, an instant as for [`Report::read_single`].
     ///
     /// # Errors
-    /// `NotJson`: the bytes are not a JSON object. `Memory`: out of memory. Otherwise the first fault at a key. First
-    /// all items of `metrics` must be objects, then there must be at most 10,000 of them (`TooLarge`). Then the keys of
-    /// each item are checked in the order shown, and `variants` as in [`Report::read_single`].
+    /// - `NotJson`: the bytes are not a JSON object.
+    /// - `Memory`: out of memory.
+    /// - Otherwise the first fault. `metrics` must be a list, all its items must be objects (`WrongKind`), and then
+    ///   there must be at most 10,000 of them (`TooLarge`). Then the keys of each item are checked in the order shown,
+    ///   and `variants` as in [`Report::read_single`].
     pub fn read_bulk(alloc: Global, bytes: &[u8]) -> Result<Report, BadReport>
         ensures gives { Gives memory result (bulk_report_of bytes.now) }
         ensures valid { IfOk result IsReport }

@@ -69,7 +69,7 @@ impl Row {
         self.entry.variants.len() <= 100
     }
 
-    /// This row's key with the sum of both tallies.
+    /// A row with this row's key and the sum of both rows' tallies.
     pub(crate) fn plus(&self, alloc: Global, other: &Row) -> Result<Row, Memory>
         requires { IsCounted self.now }
         ensures { IfOk result (λ row. row ≡ (self.now.0, tally_sum self.now.1 other.now.1)) }
@@ -88,14 +88,14 @@ fn compare(this: &str, that: &str) -> Ordering
     this.cmp(that)
 }
 
-/// The sum, saturating at 2^64 - 1.
+/// The sum of two counts, saturating at 2^64 - 1.
 fn sum(a: u64, b: u64) -> u64
     ensures { result ≡ sum a b }
 {
     a.saturating_add(b)
 }
 
-/// The sum of two entries: the app, feature and hour of the first, and the sums of the counts.
+/// The sum of two entries: the app, feature and hour of the first entry, and the sums of the counts.
 #[tactic(auto, unfolding(crate::specs::Book::tally_sum))]
 fn entry_sum(alloc: Global, this: &MetricEntry, that: &MetricEntry) -> Result<MetricEntry, Memory>
     requires { T (is_sorted (slice_cmp nat_cmp) (map pair this.now.variants)) }
@@ -112,7 +112,7 @@ fn entry_sum(alloc: Global, this: &MetricEntry, that: &MetricEntry) -> Result<Me
     })
 }
 
-/// The sum of two lists of variant counts: counts of the same name are added.
+/// The sum of two lists of variant counts: counts of the same variant are added. The names of the first list ascend.
 fn variants_sum(
     alloc: Global,
     these: &List<VariantCount>,
@@ -128,7 +128,7 @@ fn variants_sum(
     Ok(List::from_vec(counts))
 }
 
-/// Adds a count to that of the same variant, or inserts it if there is none.
+/// Adds a count to that of the same variant, or inserts it in order if there is none. The names ascend.
 fn add_variant(
     counts: &mut Vec<VariantCount>,
     alloc: Global,
@@ -146,7 +146,7 @@ fn add_variant(
     Ok(())
 }
 
-/// The position of a name, or where it would be inserted, by binary search. The names ascend.
+/// The position of a name in the list, or where the name would be inserted, by binary search. The names ascend.
 fn place_of(counts: &[VariantCount], name: &str) -> usize
     requires { T (is_sorted (slice_cmp nat_cmp) (map pair counts.now)) }
     ensures place { result ≡ place (slice_cmp nat_cmp) name.now (map pair counts.now) }
@@ -166,7 +166,7 @@ fn is_at(counts: &[VariantCount], place: usize, name: &str) -> bool
 }
 
 impl Row {
-    /// The row as an item of a bulk report, in JSON.
+    /// The row as an item of a bulk report, as a JSON value.
     #[tactic(auto, unfolding(crate::specs::Bulk::counted_data))]
     pub(crate) fn write(&self, alloc: Global) -> Result<Value, Memory>
         requires { IsCounted self.now }

@@ -23,8 +23,8 @@ pub(crate) fn copies(alloc: Global, rows: &[Shared<Row>]) -> Result<Vec<Shared<R
     Ok(copies)
 }
 
-/// The position of a row's key, or where it would be inserted, by binary search. The rows are in ascending order of
-/// keys.
+/// The position of a row's key, or where the key would be inserted, by binary search. The rows are in ascending order
+/// of keys.
 fn place_of(rows: &[Shared<Row>], row: &Row) -> usize
     requires { T (is_sorted key_cmp rows.now) }
     ensures place { result ≡ place key_cmp row.now.0 rows.now }
@@ -33,7 +33,7 @@ fn place_of(rows: &[Shared<Row>], row: &Row) -> usize
     rows.partition_point(|other| other.get().compare(row).is_lt())
 }
 
-/// Whether the row at the position has the same key.
+/// Whether the row at the position has the same key as `row`.
 fn is_at(rows: &[Shared<Row>], place: usize, row: &Row) -> bool
     ensures { result ≡ option_map_or (λ other. is_eq (key_cmp other.0 row.now.0)) (slice_get rows.now place) false }
 {
@@ -43,7 +43,7 @@ fn is_at(rows: &[Shared<Row>], place: usize, row: &Row) -> bool
     }
 }
 
-/// Adds a row's tally to the row with the same key, or inserts the row if there is none.
+/// Adds a row's tally to the row with the same key, or inserts the row in order if there is none. The keys ascend.
 fn add_row(rows: &mut Vec<Shared<Row>>, alloc: Global, row: Shared<Row>) -> Result<(), Memory>
     requires { HasOrderedKeys rows.old.items }
     ensures { OnOk result (rows.new.items ≡ with_tally rows.old.items row) }
@@ -58,7 +58,7 @@ fn add_row(rows: &mut Vec<Shared<Row>>, alloc: Global, row: Shared<Row>) -> Resu
     Ok(())
 }
 
-/// The sum of two lists of rows: tallies with the same key are added.
+/// The sum of two lists of rows: tallies with the same key are added. The keys of the first list ascend.
 pub(crate) fn sum_of(
     alloc: Global,
     rows: &[Shared<Row>],
@@ -76,7 +76,7 @@ pub(crate) fn sum_of(
     Ok(all)
 }
 
-/// The sum of the rows and the entries of a report for an environment.
+/// The sum of the rows and the entries of a report for an environment. The keys of the rows ascend.
 pub(crate) fn report_sum(
     alloc: Global,
     rows: &[Shared<Row>],
