@@ -2,11 +2,11 @@
 use Rattle.std.proofs.Common.{◌≡◌, ℕ, ◌+◌, ◌*◌, ◌≤◌, List, [], ◌∷◌, ◌++◌, length, drop, get_or, ap, arith}
 use Rattle.unl_murmur.specs.Murmur3.{state_after, after_block}
 
--- the first four bytes as a number, lowest byte first
+-- The first four bytes as a number, lowest byte first.
 abbrev pub first_block : List ℕ → ℕ
 first_block bytes = get_or bytes 0 0 + get_or bytes 1 0 * 256 + get_or bytes 2 0 * 65536 + get_or bytes 3 0 * 16777216
 
--- the first four bytes are mixed in as a block
+-- The first four bytes are mixed in as a block.
 pub block_first : (state : ℕ) (bytes : List ℕ) → 4 ≤ length bytes → (more : List ℕ)
     → state_after state (bytes ++ more) ≡ state_after (after_block state (first_block bytes)) (drop 4 bytes ++ more)
 block_first state (a ∷ b ∷ c ∷ d ∷ rest) four more = ap (λ n. state_after (after_block state n) (rest ++ more)) (omega arith)
