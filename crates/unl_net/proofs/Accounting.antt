@@ -96,7 +96,7 @@ step_one n a ea b eb c ec first second = λ few.
     let was : b + eb ≡ a + ea + n = (first below).1 in
     (omega arith, omega arith)
 
--- for connections that are accepted one after another
+-- the lemmas for connections that are accepted one after another
 pub ruleset accept_rules = (same, step_more, step_one)
 
 -- the connections that came are counted as arrived

@@ -118,7 +118,7 @@ none_longer prefix at stops k longer = by (may_be_logged (take k prefix)) refl
         (ap may_be_logged (take-append-drop (at + 1) (take k prefix)) ∙ is) in
         sym cut ∙ ap may_be_logged (take-take (at + 1) k prefix more) ∙ stops
 
--- the bytes that were passed are the longest prefix if the next byte may not be logged
+-- the bytes before the next one are the longest prefix if the next one may not be logged
 pub no_more : (prefix : List ℕ) (at : ℕ) (has_method : Bool) → at < length prefix → may_be_logged (take at prefix) ≡ true
     → has_method ≡ nat_lt 0 (spaces_in (take at prefix))
     → (is_loggable (get_or prefix at 0) && not (has_method && nat_eq (get_or prefix at 0) 32)) ≡ false
@@ -127,7 +127,7 @@ no_more prefix at has_method inside logged spaces stops =
     sym (longest (length prefix) at prefix (search arith) logged
     (none_longer prefix at (one_more prefix at has_method inside logged spaces ∙ stops)))
 
--- the bytes that were passed are the longest prefix if no byte is left
+-- the bytes so far are the longest prefix if no byte is left
 pub none_left : (prefix : List ℕ) (at : ℕ) → length prefix ≤ at → at ≤ length prefix → may_be_logged (take at prefix) ≡ true
     → length prefix ≡ longest_prefix (length prefix) prefix
 none_left prefix at past inside logged =

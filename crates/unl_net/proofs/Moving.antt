@@ -31,7 +31,7 @@ sent_keeps (Some x) (Some y) held n sent =
     ap (λ (l : List ℕ). l ++ drop n held) sent ∙ append_assoc x (take n held) (drop n held)
     ∙ ap (λ (l : List ℕ). x ++ l) (take-append-drop n held)
 
--- a link that reads received bytes removes them from the front of those to come
+-- a link that reads received bytes removes them from the start of those to come
 pub link_takes : (a : Option (List ℕ)) (old new bytes : List ℕ) → old ≡ bytes ++ new
     → Consumes (prepend_known old a) (prepend_known new a) bytes
 link_takes None old new bytes same = tt
@@ -145,14 +145,14 @@ begins_then a b c first second =
     within : length a ≤ length b
     within = omega (arith, size)
 
--- for a piece that is received
+-- the lemmas for a piece that is received
 pub ruleset receive_rules = (received_keeps, begins_same, begins_more)
 
--- for pieces that are received one after another
+-- the lemmas for pieces that are received one after another
 pub ruleset pieces_rules = (stays, stays_on, begins_same, begins_then)
 
--- for a read of the stream that waits
+-- the lemmas for a read of the stream that waits
 pub ruleset read_rules = (stays, stays_on, none_read, none_consumed, consumed_then)
 
--- for a write to the stream that waits
+-- the lemmas for a write to the stream that waits
 pub ruleset write_rules = (stays, stays_on, appended_then, appends_kept)

@@ -11,8 +11,8 @@ use Rattle.unl_net.specs.declared.phase.Facts.{Facts}
 abbrev pub unread : ReceiveBuffer → List ℕ
 unread buffer = drop buffer.taken buffer.bytes.items
 
--- How many received bytes a link may read: if they begin with a whole request, its length; if they begin with an unfinished request, 0;
--- if they are refused, all of them.
+-- How many received bytes a link may read: if they begin with a whole request, its length; if they begin with an unfinished request, 0; if
+-- they are refused (no valid request begins with them), all of them.
 abbrev pub opened_len : Frame → List ℕ → ℕ
 opened_len (Whole count) bytes = count
 opened_len More bytes = 0
@@ -44,7 +44,8 @@ abbrev pub ConsumesReturnedIfAny : {E : Type 0} → Option (List ℕ) → Option
 ConsumesReturnedIfAny old new r room =
     MatchResult r (λ count. MatchOption count (Keeps old new) (λ n. Consumes old new (take n room))) (λ _. Keeps old new)
 
--- the facts that decide what a connection with these buffers and flags waits for
+-- the facts that decide what a connection with these buffers waits for; `closing`: it is to be closed once all bytes are sent; `ended`: its
+-- client has shut down its side
 abbrev pub facts_of : ReceiveBuffer → SendBuffer → Bool → Bool → Facts
 facts_of received to_send closing ended = record {
   asked = nat_lt 0 received.opened;

@@ -9,8 +9,8 @@ use Rattle.unl_net.specs.declared.counts.Counts.{Counts}
 use Rattle.unl_net.specs.declared.listener.Accepting.{Accepting}
 use Rattle.unl_net.specs.declared.reactor.Reactor.{Reactor}
 
--- The state of the door as the contracts of `Door` see it. It is closed once its last link was handed out, or once
--- 2^64 - 1 links were. The bytes that its links read and write are not observable.
+-- The state of the door as the contracts of `Door` see it. It is closed once its last link has been handed out, or
+-- once 2^64 - 1 links have been. The bytes that its links read and write are not observable.
 abbrev pub door_state : List ℕ → Counts → DoorState
 door_state ports counts = record {
   ports = ports;
@@ -44,7 +44,7 @@ abbrev pub ended_by : {S : Type 0} → Option (Reactor S) → ℕ
 ended_by None = 0
 ended_by (Some reactor) = reactor.ended
 
--- the number of connections in the door, plus one if a call handed one out as a link
+-- `held`, the number of connections that a door holds, plus one if a call handed one out as a link
 abbrev pub with_link : {L E : Type 0} → Result L E → ℕ → ℕ
 with_link (Ok link) held = held + 1
 with_link (Err fault) held = held

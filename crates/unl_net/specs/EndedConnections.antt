@@ -11,7 +11,8 @@ use Rattle.unl_net.specs.declared.cuts.EndReason.TheVariants.{Done, Failed, Late
 use Rattle.unl_net.specs.declared.phase.Phase.{Phase}
 use Rattle.unl_net.specs.declared.phase.Phase.TheVariants.{Idle, Receiving, Ready, Sending, Draining, Over}
 
--- a connection that has been in this phase since that moment may end for this reason
+-- A connection that has been in this phase since that moment may end for this reason. `now` is when the time was checked, and `began` when
+-- accepting failed for good: the door ends its connections 30 seconds later.
 abbrev pub MayEnd : EndReason → Phase → Option Instant → Type 0
 MayEnd Done phase since = phase ≡ Over
 MayEnd (Failed fault) phase since = ⊤
@@ -19,7 +20,7 @@ MayEnd (Late now) phase since = nat_le (limit_of phase) (seconds_between since n
 MayEnd (CutOff cut) phase since = ⊤
 MayEnd (DoorEnds began now) phase since = nat_le 30 (seconds_between began now) ≡ true
 
--- the cause that is counted for a connection whose time in this phase is over; an idle client is not counted as cut off
+-- the cause that is counted for a connection whose time in this phase is over; only in `Receiving` and `Sending` is it counted as cut off
 abbrev pub late_cut : Phase → Option Cut
 late_cut Idle = None
 late_cut Receiving = Some SlowRequest
@@ -36,7 +37,7 @@ cut_of (Late now) phase = late_cut phase
 cut_of (CutOff cut) phase = Some cut
 cut_of (DoorEnds began now) phase = None
 
--- the counts with one more connection that was cut off for this cause
+-- the counts with one more connection that was cut off for this cause; each stops at the largest u64
 abbrev pub with_cut : Cut → Cuts → Cuts
 with_cut SlowRequest cuts = record cuts { slow_requests = min (cuts.slow_requests + 1) (2 ^ 64 - 1) }
 with_cut SlowReader cuts = record cuts { slow_readers = min (cuts.slow_readers + 1) (2 ^ 64 - 1) }
@@ -49,8 +50,8 @@ with_cut_if_any None cuts = cuts
 with_cut_if_any (Some cut) cuts = with_cut cut cuts
 
 -- No connection is lost between two moments: each of those held at the first, and of `more` that came since, is held at the second or was
--- counted as ended. `held` is how many wait or are ready, and `ended` how many were counted as ended; `held_now` and `ended_now` are the
--- same at the second moment. Once the count of those that ended has stopped at the largest u64, nothing is said.
+-- counted as ended. `held` is how many wait or are ready at the first, and `ended` how many were counted as ended by then; `held_now`
+-- and `ended_now` are these numbers at the second. Once the count of those that ended has stopped at the largest u64, nothing is said.
 unfoldable pub Accounts : ℕ → ℕ → ℕ → ℕ → ℕ → Type 0
 Accounts more held ended held_now ended_now =
     ended_now < 2 ^ 64 - 1 → (ended ≤ ended_now) × (held_now + ended_now ≡ held + ended + more)

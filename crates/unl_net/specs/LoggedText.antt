@@ -10,7 +10,7 @@ is_loggable byte = nat_le 32 byte && nat_le byte 126 && not (nat_eq byte 63)
 abbrev pub spaces_in : List ℕ → ℕ
 spaces_in bytes = length (filter (λ byte. nat_eq byte 32) bytes)
 
--- whether these bytes may be logged as a text: each may be logged, and at most one is a space, like the one between the method and the path
+-- whether these bytes may be logged as a text: each may be logged, and at most one is a space (a method and a path have one between them)
 abbrev pub may_be_logged : List ℕ → Bool
 may_be_logged bytes = list_all is_loggable bytes && nat_le (spaces_in bytes) 1
 

@@ -30,7 +30,7 @@ digits_of first second third =
     then Some ((first - 48) * 100 + (second - 48) * 10 + (third - 48))
     else None
 
--- the status of a reply that begins with these bytes: the three digits that follow the version and any one byte
+-- the status of a reply that begins with these bytes: the three digits after `HTTP/1.` and any two bytes; `None` if it begins otherwise
 abbrev pub status_of : List ℕ → Option ℕ
 status_of reply =
     if nat_le 12 (length reply) && starts_with nat_eq reply (codes "HTTP/1.")
@@ -49,7 +49,7 @@ nothing_known = record { key = 0; logged = record { last = 0 }; fed = false }
 abbrev pub place_of : ℕ → List Known → Option ℕ
 place_of key known = position (λ entry. nat_eq entry.key key || nat_eq entry.key 0) known
 
--- the class last logged for the kind of request whose entry is at this index
+-- the class last noted for the kind of request whose entry is at this index
 abbrev pub last_at : List Known → ℕ → ℕ
 last_at known at = (slice_index_or known at nothing_known).logged.last
 
@@ -57,9 +57,9 @@ last_at known at = (slice_index_or known at nothing_known).logged.last
 abbrev pub fed_at : List Known → ℕ → Bool
 fed_at known at = (slice_index_or known at nothing_known).fed
 
--- The class to note for a reply. A feed is taken if this program accepts it; then the next request for it has a tag. 1000 is the class
--- of a feed that was not taken. After such a feed a further feed does not change the class: only the next request shows whether that
--- feed was taken.
+-- The class to note for a reply; `last` is the class noted before. A feed is taken if this program accepts it; then the next request for it
+-- has a tag. 1000 is the class of a feed that was not taken. If `last` is 1000, a further feed does not change it: only the next request
+-- shows whether the further feed was taken.
 abbrev pub next_class : ℕ → ℕ → Bool → ℕ
 next_class last class fed = if fed && nat_eq last 1000 then last else class
 
@@ -69,7 +69,7 @@ after_reply key class fed known = option_map_or
     (λ at. slice_set known at (record { key = key; logged = record { last = next_class (last_at known at) class fed }; fed = fed }))
     (place_of key known) known
 
--- whether a reply is news: its class differs from the class last logged for its kind of request
+-- whether a reply is news: its kind of request has an entry, and the class to note differs from the class last noted there
 abbrev pub is_news : ℕ → ℕ → Bool → List Known → Bool
 is_news key class fed known =
     option_map_or (λ at. not (nat_eq (next_class (last_at known at) class fed) (last_at known at))) (place_of key known) false
@@ -82,14 +82,14 @@ taken_class taken = if taken then 0 else 1000
 abbrev pub taken_status : Bool → ℕ
 taken_status taken = if taken then 200 else 1000
 
--- the entries after a request: if the last reply was a feed, the tag of the request shows that it was taken
+-- the entries after a request: if the last reply to its kind was a feed, a tag shows that the feed was taken, and no tag that it was not
 abbrev pub after_request : ℕ → Bool → List Known → List Known
 after_request key has_tag known = option_map_or
     (λ at. if fed_at known at then slice_set known at
     (record { key = key; logged = record { last = taken_class has_tag }; fed = false }) else known)
     (place_of key known) known
 
--- the status to be logged after a request, if it is news
+-- the status to be logged after a request: that of the feed before it, if there was one and its class differs from the class last noted
 abbrev pub logged_request : ℕ → Bool → List Known → Option LoggedStatus
 logged_request key has_tag known = option_and_then
     (λ at. if fed_at known at && not (nat_eq (taken_class has_tag) (last_at known at))
@@ -114,7 +114,7 @@ reply_status reply = unwrap_or (status_of reply) 1
 abbrev pub is_fed : StatusLog → List ℕ → Bool
 is_fed log reply = log.kind.is_feed && nat_eq (reply_status reply) 200
 
--- the status to be logged for a reply with this status, if it is news
+-- the status to be logged for a reply: its status, if the reply is news
 abbrev pub logged_reply : ℕ → ℕ → Bool → List Known → Option LoggedStatus
 logged_reply key status fed known = if is_news key (class_of status) fed known then Some (record { status = status }) else None
 

@@ -4,13 +4,14 @@ ghost use Rattle.std.specs.Prelude.{◌≡◌, ◌≢◌, ◌+◌, ◌-◌, ◌=
 use std::alloc::{AllocError, Global};
 use unl_http_api::{Frame, request_frame};
 
-/// Received bytes. A link may read those that were opened: a whole request, or bytes that are refused.
+/// Received bytes. A link may read only those that were opened: a whole request, bytes that are refused (no request can
+/// begin with them), or all bytes (`open_all`).
 #[derive(Drop)]
 pub(crate) struct ReceiveBuffer {
     bytes: Vec<u8>,
     /// The number of bytes at the start that were read already.
     taken: usize,
-    /// The number of bytes after these that a link may read: one request, or bytes that are refused.
+    /// The number of bytes after those taken that are opened: a link may read them.
     opened: usize,
     ghost within: { taken + opened ≤ vec_len bytes },
 }
@@ -45,14 +46,14 @@ impl ReceiveBuffer {
         self.len() == 0
     }
 
-    /// The number of bytes that a link may read: one request, or bytes that are refused.
+    /// The number of opened bytes, which a link may read.
     pub fn opened_len(&self) -> usize
         ensures { result ≡ self.now.opened }
     {
         self.opened
     }
 
-    /// Makes room for more bytes.
+    /// Makes room for `more` further bytes, and drops the bytes that were read already.
     ///
     /// # Errors
     /// Out of memory.
@@ -84,8 +85,9 @@ impl ReceiveBuffer {
         }
     }
 
-    /// Opens bytes, so that a link may read them: the request at the start of the unread bytes if it is whole, none if it is unfinished,
-    /// or all unread bytes if they are refused. Returns which of these it is.
+    /// Opens bytes, so that a link may read them: the request at the start of the unread bytes if it is whole, none if
+    /// it is unfinished, or all unread bytes if they are refused. Returns which of these it is. If an allocation fails,
+    /// the request counts as unfinished.
     pub fn open(&mut self, alloc: Global) -> Frame
         ensures same { unread self.new ≡ unread self.old }
         ensures frame { result ≢ Frame.More → IsFrame (unread self.new) result }
@@ -108,7 +110,7 @@ impl ReceiveBuffer {
         self.opened = self.len();
     }
 
-    /// Reads opened bytes into `room`, and returns how many.
+    /// Reads opened bytes into `room`, as many as fit, and returns how many.
     pub fn read_opened(&mut self, room: &mut [u8]) -> usize
         ensures fits { result ≤ length room.new }
         ensures some { 0 < length room.old → 0 < self.old.opened → 0 < result }
@@ -137,7 +139,7 @@ impl ReceiveBuffer {
         }
     }
 
-    /// Drops all bytes.
+    /// Drops all bytes, and frees the memory.
     pub fn clear(&mut self, alloc: Global)
         ensures { unread self.new ≡ [] }
     {
@@ -213,7 +215,7 @@ impl SendBuffer {
     /// Appends bytes. It reserves no more memory than they need.
     ///
     /// # Errors
-    /// Out of memory. Nothing was appended.
+    /// Out of memory. Nothing is appended then.
     pub fn add(&mut self, bytes: &[u8]) -> Result<(), AllocError>
         ensures ok { OnOk result (unsent self.new ≡ unsent self.old ++ bytes.now) }
         ensures err { OnErr result (unsent self.new ≡ unsent self.old) }

@@ -32,14 +32,14 @@ pub(crate) struct Connection<S: Read + Write + OpenStream + Drop> {
     pub stream: S,
     pub received: ReceiveBuffer,
     pub to_send: SendBuffer,
-    /// Whether the received bytes are refused: they are not an HTTP request, or the head of the request breaks a rule.
+    /// Whether the received bytes are refused: no valid request begins with them.
     pub refused: bool,
     /// Whether the client has shut down its side: no more bytes come.
     pub ended: bool,
     /// Whether the connection will be closed once all bytes are sent.
     pub closing: bool,
-    /// When its current phase began or when bytes were last sent, whichever is later. A request that becomes whole doesn't
-    /// renew it.
+    /// When the connection's current phase began or when bytes were last sent, whichever is later. A request that
+    /// becomes whole doesn't renew it. `None` if the clock can't be read.
     pub since: Option<Instant>,
     /// Whether this side was shut down: nothing more is sent.
     is_shut: bool,
@@ -118,7 +118,7 @@ impl<S: Read + Write + OpenStream + Drop> Connection<S> {
         frame != Frame::More
     }
 
-    /// Marks the connection to be closed after its answers, unless bytes of a further request were received.
+    /// Marks the connection to be closed after its replies, unless bytes of a further request were received.
     pub fn close_after_answers(&mut self)
         ensures { self.new ≡ record self.old { closing = self.old.closing || (length (unread self.old.received) == 0) } }
     {
@@ -155,7 +155,7 @@ impl<S: Read + Write + OpenStream + Drop> Connection<S> {
         self.phase().limit() <= seconds_between(self.since, now)
     }
 
-    /// Reads from the stream once. `None`: no byte came in time.
+    /// Reads from the stream once, and returns how many bytes came: 0 at its end, `None` if none came in time.
     ///
     /// # Errors
     /// The error of the stream.
@@ -172,7 +172,8 @@ impl<S: Read + Write + OpenStream + Drop> Connection<S> {
         }
     }
 
-    /// Reads from the stream once, and appends the bytes to the received ones. Returns false if no byte came in time.
+    /// Reads from the stream once: appends the bytes to the received ones, or notes that the client has shut down its
+    /// side. Returns false if neither came in time.
     ///
     /// # Errors
     /// The error of the stream, or out of memory.
@@ -212,7 +213,7 @@ impl<S: Read + Write + OpenStream + Drop> Connection<S> {
         }
     }
 
-    /// Makes one write of the bytes to be sent, and returns how many the stream took.
+    /// Makes one write of the bytes to be sent, and returns how many the stream took: 0 if it took none in time.
     ///
     /// # Errors
     /// The error of the stream.
@@ -233,8 +234,8 @@ impl<S: Read + Write + OpenStream + Drop> Connection<S> {
         }
     }
 
-    /// Advances a connection that no link serves: sends the bytes to be sent, then reads what came. No received byte is
-    /// lost unless the connection is to be closed. Returns its new phase.
+    /// Advances a connection that no link serves: sends the bytes to be sent and, if none are left, reads what came. No
+    /// received byte is lost unless the connection is to be closed. Returns its new phase.
     ///
     /// # Errors
     /// The error of the stream, or out of memory.
@@ -282,7 +283,7 @@ impl<S: Read + Write + OpenStream + Drop> Connection<S> {
         self.advance_receiving(alloc, clock, room)
     }
 
-    /// Opens the received request if it is whole, otherwise reads what came.
+    /// Opens the received bytes if a request is whole or they are refused, otherwise reads what came.
     ///
     /// # Errors
     /// The error of the stream, or out of memory.
@@ -306,7 +307,8 @@ impl<S: Read + Write + OpenStream + Drop> Connection<S> {
         self.receive_request(alloc, clock, room)
     }
 
-    /// Sends the bytes to be sent, as far as the stream takes them.
+    /// Makes one write of the bytes to be sent, if there are any. If the stream takes some, the connection's waiting
+    /// time begins again.
     ///
     /// # Errors
     /// The error of the stream.
@@ -330,7 +332,8 @@ impl<S: Read + Write + OpenStream + Drop> Connection<S> {
         Ok(())
     }
 
-    /// Reads what came, until a request is whole or nothing is left.
+    /// Reads what came, until a request is whole, the bytes are refused, or nothing is left. If these are the first
+    /// bytes of a request, the connection's waiting time begins again.
     ///
     /// # Errors
     /// The error of the stream, or out of memory.
@@ -357,7 +360,8 @@ impl<S: Read + Write + OpenStream + Drop> Connection<S> {
         Ok(self.phase())
     }
 
-    /// Reads piece after piece, until a request is whole or nothing is left.
+    /// Reads piece after piece, `MOST_PIECES` at most, until a request is whole, the bytes are refused, or nothing is
+    /// left.
     ///
     /// # Errors
     /// The error of the stream, or out of memory.
@@ -376,7 +380,8 @@ impl<S: Read + Write + OpenStream + Drop> Connection<S> {
         Ok(())
     }
 
-    /// Reads a piece, and opens the request if it is whole then. Returns whether to read on.
+    /// Reads a piece, then opens the received bytes if a request is whole or they are refused. Returns whether to read
+    /// on.
     ///
     /// # Errors
     /// The error of the stream, or out of memory.
@@ -387,8 +392,8 @@ impl<S: Read + Write + OpenStream + Drop> Connection<S> {
         ensures kept { Keeps (coming self.old.received (S.remaining self.old.stream))
             (coming self.new.received (S.remaining self.new.stream)) }
     {
-        // The end of the stream was already read, so there is nothing more to read. (The caller reads again after a
-        // piece that leaves the request unfinished: if the client has shut down its side, no later event says so.)
+        // Nothing comes after the end of the stream. (The caller reads on after a piece that leaves the request
+        // unfinished, because no later event tells it if the end of the stream is there already.)
         if self.ended {
             return Ok(false);
         }
@@ -398,7 +403,8 @@ impl<S: Read + Write + OpenStream + Drop> Connection<S> {
         Ok(!self.open(alloc))
     }
 
-    /// Shuts down this side, and discards what comes until the client shuts down its side too.
+    /// Shuts down this side, discards the bytes that came, and notes whether the client has shut down its side too.
+    /// Returns the new phase.
     ///
     /// # Errors
     /// The error of the stream.

@@ -1,4 +1,4 @@
-//! Why connections end, and how many were cut off. These counts, and that of the answers with a status of 500 or more,
+//! Why connections end, and how many were cut off. These counts, and that of the replies with a status of 500 or more,
 //! are logged once a minute at most.
 ghost use Rattle.std.specs.Prelude.{◌≡◌};
 ghost use Rattle.unl_net.specs.EndedConnections.{with_cut_if_any, with_cut, cut_of, late_cut};
@@ -17,32 +17,32 @@ const LOG_INTERVAL: u64 = 60;
 pub(crate) enum Cut {
     /// A request was not whole in time.
     SlowRequest,
-    /// The client received no byte of an answer in time.
+    /// The client took no byte of a reply in time.
     SlowReader,
     /// The door had no room or no file descriptor for another connection, and closed this one to free some.
     Room,
-    /// Its memory was needed, or an allocation failed.
+    /// The connection's memory was needed, or an allocation for it failed.
     Memory,
 }
 
-/// Why a connection ends while the door holds it, so no link serves it.
+/// Why a connection ends while the door holds it, that is, while no link serves it.
 #[derive(Clone, Copy)]
 pub(crate) enum EndReason {
-    /// The client shut the connection down, and nothing is left to be sent.
+    /// The client has shut down its side, and nothing is left to be sent.
     Done,
     /// A call of its stream failed, or the door's wait for events failed.
     Failed(io::Error),
-    /// It has waited longer than its phase allows. The field is the moment at which this was checked.
+    /// The connection has waited for as long as its phase allows. The field is the moment at which this was checked.
     Late(Option<Instant>),
-    /// It is cut off.
+    /// The connection is cut off for this cause.
     CutOff(Cut),
     /// The door ends all its connections, at least 30 seconds after accepting new ones failed for good. The fields are
     /// the moment of that failure, and the moment at which the 30 seconds were checked.
     DoorEnds(Option<Instant>, Option<Instant>),
 }
 
-/// The cause that is counted for a connection that waited too long in this phase. Returns `None` if the connection does
-/// not count as cut off, such as an idle one.
+/// The cause that is counted for a connection that waited too long in this phase. Returns `None` if the connection
+/// doesn't count as cut off, as in the phase `Idle`.
 fn late_cut(phase: Phase) -> Option<Cut>
     ensures { result ≡ late_cut phase }
 {
@@ -108,7 +108,7 @@ impl Cuts {
         }
     }
 
-    /// Counts connections for which there was no memory.
+    /// Counts connections that were closed because an allocation failed.
     pub fn count_memory(&mut self, count: u64) {
         self.memory = self.memory.saturating_add(count);
     }
@@ -138,7 +138,7 @@ impl Display for Cuts {
     }
 }
 
-/// When a kind of line was last logged, which is at most once a minute.
+/// When a line of one kind was last logged. Such lines are logged once a minute at most.
 #[derive(Clone, Copy)]
 pub(crate) struct EachMinute {
     last: Option<Instant>,
@@ -159,7 +159,7 @@ impl EachMinute {
         is_due
     }
 
-    /// The counts since the last line, if a line is due. `cuts` then begins again at 0.
+    /// The counts since the last line, if a line is due and not all of them are 0. If so, `cuts` begins again at 0.
     pub fn due_cuts(&mut self, now: Option<Instant>, cuts: &mut Cuts) -> Option<Cuts> {
         if cuts.sum() == 0 || !self.is_due(now) {
             return None;
@@ -169,7 +169,7 @@ impl EachMinute {
         Some(due)
     }
 
-    /// Whether a line with this count is due. It never is if the count is 0.
+    /// Whether a line with this count is due: never if the count is 0. If it is due, it counts as logged.
     pub fn is_count_due(&mut self, now: Option<Instant>, count: u64) -> bool {
         count > 0 && self.is_due(now)
     }

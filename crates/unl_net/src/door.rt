@@ -23,7 +23,7 @@ use std::sync::{Arc, Wait};
 use std::time::Clock;
 use unl_base::{Door, Failed};
 
-/// How many links are handed out before the door handles further events.
+/// How many links are handed out at most before the door handles further events.
 const MOST_IN_A_ROW: u64 = 32;
 
 /// The longest wait for an event, in milliseconds.
@@ -32,9 +32,9 @@ const LONG_WAIT: u64 = 1_000;
 /// The longest wait for an event while a connection is pending and there is no room for it yet, in milliseconds.
 const SHORT_WAIT: u64 = 10;
 
-/// A door over the network. It listens on all IPv6 and IPv4 addresses of this machine if one socket can do both, otherwise on all IPv4
-/// addresses. It holds the connections that wait for their clients, and hands one out as a link once a whole request was received. A
-/// connection may be several links, one after another.
+/// A door over the network. It listens on all IPv6 and IPv4 addresses of this machine if one socket can do both,
+/// otherwise on all IPv4 addresses. It holds the connections that wait for their clients, and hands one out as a link
+/// once a whole request was received, or bytes that are refused. A connection may be several links, one after another.
 #[derive(Drop)]
 pub struct RealDoor<N: Net + Clock + Eprint + Wait + Copy + Drop> {
     net: N,
@@ -52,8 +52,8 @@ pub struct RealDoor<N: Net + Clock + Eprint + Wait + Copy + Drop> {
 
 impl<N: Net + Clock + Eprint + Wait + Copy + Drop> RealDoor<N> {
     /// A door that doesn't listen yet and has counted no fault. It accepts `bound` connections and closes with their
-    /// last link; without a bound it accepts 2^64 - 1. `workers`: how many worker threads serve links at the same time,
-    /// or 0 if the thread that calls `accept` serves them.
+    /// last link (a bound of 0: at once); without a bound it accepts 2^64 - 1. `workers`: how many worker threads serve
+    /// links at the same time, or 0 if the thread that calls `accept` serves them.
     ///
     /// # Errors
     /// Out of memory.
@@ -136,9 +136,9 @@ fn next_link_or_fault<N: Net + Clock + Eprint + Wait + Copy + Drop>(
     Ok(next)
 }
 
-/// Waits for the next link of a reactor. Returns it, and whether it is the last one. `None`: no connection is left and no
-/// more are accepted. No connection is lost: each one that the reactor had before, that was accepted meanwhile, or that
-/// a link returned, is now the link, waits, is ready, or was counted as ended.
+/// Waits for the next link of a reactor. Returns it, and whether it is the last one. `None`: no connection waits or is
+/// ready, and no more are accepted. No connection is lost: each one that the reactor had before, that was accepted
+/// meanwhile, or that a link returned, is now the link, waits, is ready, or was counted as ended.
 ///
 /// # Errors
 /// Out of memory.
@@ -171,7 +171,8 @@ fn next_link_if_any<N: Net + Clock + Eprint + Wait + Copy + Drop>(
     Err(io::Error::from(ErrorKind::NotConnected))
 }
 
-/// Hands out a connection that is ready, unless `MOST_IN_A_ROW` were handed out since the door last waited for events.
+/// Hands out a connection that is ready, and returns whether it is the last link. Returns `None` if no connection is
+/// ready, or if `MOST_IN_A_ROW` were handed out since the door last waited for events.
 ///
 /// # Errors
 /// Out of memory.
@@ -236,8 +237,8 @@ fn accept_more<N: Net + Clock + Eprint + Wait + Copy + Drop>(
     reports.count_arrived(count);
 }
 
-/// Whether the door is finished: no more connections are accepted, none waits or is ready, and the door need not wait for
-/// the links that are out ([`Reactor::needs_no_link`] says when).
+/// Whether the door is finished: no more connections are accepted, none waits or is ready, and the door need not wait
+/// for the links that are out ([`Reactor::needs_no_link`] says when).
 #[tactic(auto, using(crate::proofs::Accounting::unchanged))]
 fn is_finished<N: Net + Clock + Eprint + Wait + Copy + Drop>(
     net: &N,
@@ -255,7 +256,8 @@ fn is_finished<N: Net + Clock + Eprint + Wait + Copy + Drop>(
     if !reactor.needs_no_link(moment(net)) {
         return false;
     }
-    // A link may have given its connection back since the last look: such a connection is taken now, so that it isn't missed.
+    // A link may have given its connection back since the last look. Such a connection is taken now, so that it isn't
+    // missed.
     take_back(net, reactor, reports);
     reactor.is_empty()
 }
@@ -279,7 +281,8 @@ fn accept_and_wait<N: Net + Clock + Eprint + Wait + Copy + Drop>(
     wait_for_events(net, reactor, accepting, reports);
 }
 
-/// Takes back the connections of links that did not wake the door, waits for events, and ends the connections whose time is over.
+/// Takes back the connections that links returned without waking the door, waits for events, and ends the connections
+/// whose time is over.
 #[tactic(auto, using(crate::proofs::Accounting::around))]
 fn wait_for_events<N: Net + Clock + Eprint + Wait + Copy + Drop>(
     net: N,
@@ -295,7 +298,8 @@ fn wait_for_events<N: Net + Clock + Eprint + Wait + Copy + Drop>(
     sweep_and_log(net, reactor, accepting, reports);
 }
 
-/// Waits for events, and handles them. If that fails, it fails for good: the error is noted, and no connection waits any more.
+/// Waits for events, and handles them. If that fails, it fails for good: the error is noted, and no connection waits
+/// any more.
 #[tactic(auto, using(crate::proofs::Accounting::step))]
 fn wait<N: Net + Clock + Eprint + Wait + Copy + Drop>(
     net: &N,
@@ -362,8 +366,8 @@ fn hand_out<N: Net + Clock + Eprint + Wait + Copy + Drop>(
     Ok(Some((link, is_last)))
 }
 
-/// Ends the connections whose time is over. Logs how many connections were cut off and how many server errors there
-/// were, if it is time to log them.
+/// Ends the connections whose time is over. Logs how many connections were cut off and how many replies had a status of
+/// 500 or more, if it is time to log them.
 #[tactic(auto, using(crate::proofs::Accounting::none_arrived))]
 fn sweep_and_log<N: Net + Clock + Eprint + Wait + Copy + Drop>(
     net: N,
@@ -407,8 +411,9 @@ impl<N: Net + Clock + Eprint + Wait + Copy + Drop> Door for RealDoor<N> {
         }
     }
 
-    /// Hands out a connection from which a whole request was received. The door closes only with the last link of the
-    /// connections that its bound allows.
+    /// Hands out a connection from which a whole request was received, or bytes that are refused. Once all connections
+    /// that the door's bound allows were accepted, it hands out each one even before a request was received, and closes
+    /// only with the last of these links.
     ///
     /// If accepting fails for good, the existing connections continue to wait for their requests. Each is closed after
     /// its requests are answered. The door fails when none is left, after 30 seconds at most. If waiting for events

@@ -1,6 +1,6 @@
-//! Ends connections that wait for their clients: the one with the most received bytes if memory is short, the oldest
-//! one if there are as many connections as allowed, and each one that has waited too long. It also decides what happens
-//! to all of them once no more are accepted.
+//! Ends connections that wait for their clients: the one with the most received bytes if all together have received too
+//! many, the oldest ones if there are as many connections as allowed or if file descriptors run out, and each one that
+//! has waited too long. It also decides what happens to all of them once no more are accepted.
 ghost use Rattle.slab.specs.Slab.{slab_len};
 ghost use Rattle.std.specs.Prelude.{◌≡◌, ◌+◌, ◌&&◌, nat_le};
 ghost use Rattle.std.specs.VecDeque.{deque_len};
@@ -19,7 +19,7 @@ use std::net::OpenStream;
 use std::os::fd::AsRawFd;
 use std::time::Instant;
 
-/// The most bytes of unfinished requests, of all connections together.
+/// The most received bytes (of unfinished requests) of all waiting connections together.
 const MOST_RECEIVED: u64 = 67_108_864;
 
 /// How many connections are closed at once if the system has no more file descriptors, or no memory for one.
@@ -40,7 +40,8 @@ impl<S: Read + Write + OpenStream + AsRawFd + Drop> Reactor<S> {
         }
     }
 
-    /// Cuts off the connection that has received most, if all connections together have received more than `MOST_RECEIVED` bytes.
+    /// Cuts off the waiting connection that has received most, if all of them together have received more than
+    /// `MOST_RECEIVED` bytes.
     #[tactic(auto, using(crate::proofs::Accounting::same))]
     pub(crate) fn bound_received(&mut self)
         ensures accounts { Accounts 0 (slab_len self.old.waiting + deque_len self.old.ready) self.old.ended
@@ -51,7 +52,7 @@ impl<S: Read + Write + OpenStream + AsRawFd + Drop> Reactor<S> {
         }
     }
 
-    /// Cuts off the connection that has received most.
+    /// Cuts off the waiting connection that has received most, if one waits.
     #[tactic(auto, using(crate::proofs::Accounting::same))]
     fn cut_largest(&mut self)
         ensures accounts { Accounts 0 (slab_len self.old.waiting + deque_len self.old.ready) self.old.ended
@@ -77,7 +78,9 @@ impl<S: Read + Write + OpenStream + AsRawFd + Drop> Reactor<S> {
         }
     }
 
-    /// Closes the connection that has waited longest, preferably one without a request. Returns false if none waits.
+    /// Closes the connection that has waited longest, or, if any is idle (nothing of its next request was received),
+    /// the idle one that has waited longest. Returns false if none waits. A connection that has waited since an unknown
+    /// moment isn't considered.
     #[tactic(auto, using(crate::proofs::Accounting::same))]
     pub(crate) fn close_oldest(&mut self) -> bool
         ensures accounts { Accounts 0 (slab_len self.old.waiting + deque_len self.old.ready) self.old.ended
@@ -90,7 +93,7 @@ impl<S: Read + Write + OpenStream + AsRawFd + Drop> Reactor<S> {
         true
     }
 
-    /// Closes the [`CLOSED_AT_ONCE`] connections that have waited longest, preferably those without a request.
+    /// Closes [`CLOSED_AT_ONCE`] connections as `close_oldest` does, or fewer if fewer wait.
     #[tactic(auto, using(crate::proofs::Accounting::same, crate::proofs::Accounting::step))]
     pub(crate) fn close_some(&mut self)
         ensures accounts { Accounts 0 (slab_len self.old.waiting + deque_len self.old.ready) self.old.ended
@@ -101,7 +104,7 @@ impl<S: Read + Write + OpenStream + AsRawFd + Drop> Reactor<S> {
         }
     }
 
-    /// The key of the connection that has waited longest, preferably one without a request, if one waits.
+    /// The key of the connection that `close_oldest` closes, if there is one.
     pub(crate) fn oldest(&self) -> Option<usize> {
         let mut oldest: Option<(bool, Instant, usize)> = None;
         for (key, connection) in self.waiting.iter() {
@@ -127,8 +130,9 @@ impl<S: Read + Write + OpenStream + AsRawFd + Drop> Reactor<S> {
         self.ended = self.ended.saturating_add(1);
     }
 
-    /// Ends the connections whose time is over, at most once a second. If there is no memory to note all of them, the
-    /// rest end later.
+    /// Ends the connections whose time is over, at most once a second. A connection's time is over if it has waited too
+    /// long, or if no connection may wait any longer (`is_over`). If there is no memory to note all of them, the rest
+    /// end later.
     #[tactic(auto, using(crate::proofs::Accounting::same))]
     pub fn sweep(&mut self, now: Option<Instant>)
         ensures accounts { Accounts 0 (slab_len self.old.waiting + deque_len self.old.ready) self.old.ended
@@ -143,7 +147,8 @@ impl<S: Read + Write + OpenStream + AsRawFd + Drop> Reactor<S> {
         self.end_noted(now)
     }
 
-    /// Whether no connection may wait any longer: at `now` at least 30 seconds have passed since accepting failed for good.
+    /// Whether no connection may wait any longer: at `now` at least 30 seconds have passed since accepting failed for
+    /// good.
     pub(crate) fn is_over(&self, now: Option<Instant>) -> bool
         ensures exact { result ≡ (self.now.is_ending && nat_le 30 (seconds_between self.now.ending_since now)) }
     {
@@ -172,7 +177,7 @@ impl<S: Read + Write + OpenStream + AsRawFd + Drop> Reactor<S> {
         }
     }
 
-    /// Ends a connection, if its time is over.
+    /// Ends the waiting connection with this key if its time is over, and otherwise places it again.
     #[tactic(auto, using(crate::proofs::Accounting::same, crate::proofs::Accounting::placed, crate::proofs::Conditions::second_holds))]
     fn end_key(&mut self, key: usize, now: Option<Instant>)
         ensures accounts { Accounts 0 (slab_len self.old.waiting + deque_len self.old.ready) self.old.ended
@@ -197,7 +202,8 @@ impl<S: Read + Write + OpenStream + AsRawFd + Drop> Reactor<S> {
         self.has_no_links() || self.wait_fault.is_some() || self.is_over(now)
     }
 
-    /// Notes that accepting failed for good: from this moment on each connection is closed after its answers, or after 30 seconds.
+    /// Notes that accepting failed for good at `now`: from then on each connection is closed after its replies, or
+    /// after 30 seconds.
     pub fn begin_ending(&mut self, now: Option<Instant>)
         ensures accounts { Accounts 0 (slab_len self.old.waiting + deque_len self.old.ready) self.old.ended
             (slab_len self.new.waiting + deque_len self.new.ready) self.new.ended }
@@ -207,7 +213,8 @@ impl<S: Read + Write + OpenStream + AsRawFd + Drop> Reactor<S> {
         self.place_all()
     }
 
-    /// Notes that waiting for events failed for good: the connections that are ready for a link are served, and all others end.
+    /// Notes that waiting for events failed for good: the connections that are ready for a link are served, and all
+    /// others end, as far as there is memory to note their keys.
     pub fn end_waiting(&mut self, fault: io::Error)
         ensures accounts { Accounts 0 (slab_len self.old.waiting + deque_len self.old.ready) self.old.ended
             (slab_len self.new.waiting + deque_len self.new.ready) self.new.ended }
@@ -219,8 +226,8 @@ impl<S: Read + Write + OpenStream + AsRawFd + Drop> Reactor<S> {
 
     /// Notes that as many connections were accepted as the bound allows. From now on each connection from which a
     /// request may still come is ready for a link, even before a request was received. The link serves it until the
-    /// connection ends. The door closes when the last link ends. If memory runs out while the keys of the waiting
-    /// connections are collected, the rest become ready for a link once a whole request was received.
+    /// connection ends. The door closes when it hands out the last connection. If memory runs out while the keys of the
+    /// waiting connections are collected, the rest become ready for a link once a whole request was received.
     pub fn note_accepted_all(&mut self)
         ensures accounts { Accounts 0 (slab_len self.old.waiting + deque_len self.old.ready) self.old.ended
             (slab_len self.new.waiting + deque_len self.new.ready) self.new.ended }
@@ -262,7 +269,8 @@ impl<S: Read + Write + OpenStream + AsRawFd + Drop> Reactor<S> {
         }
     }
 
-    /// Places again a connection that waits.
+    /// Places again the waiting connection with this key. If accepting failed for good and bytes are still to be sent,
+    /// marks it to be closed after its replies.
     #[tactic(auto, using(crate::proofs::Accounting::same, crate::proofs::Accounting::placed))]
     fn place_key(&mut self, key: usize)
         ensures accounts { Accounts 0 (slab_len self.old.waiting + deque_len self.old.ready) self.old.ended
@@ -279,8 +287,8 @@ impl<S: Read + Write + OpenStream + AsRawFd + Drop> Reactor<S> {
     }
 }
 
-/// Collects the keys of all waiting connections, or, unless `all`, only of those whose time is over at `now`. It stops
-/// if an allocation fails.
+/// Collects the keys of the connections that have waited too long at `now`, or, if `all`, of all that wait. It stops if
+/// an allocation fails.
 fn note_keys<S: Read + Write + OpenStream + AsRawFd + Drop>(
     waiting: &Slab<Connection<S>>,
     keys: &mut Vec<usize>,

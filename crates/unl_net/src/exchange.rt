@@ -5,14 +5,14 @@ ghost use Rattle.unl_net.specs.Exchanges.{rests, seconds_left};
 use crate::moment::seconds_between;
 use std::time::Instant;
 
-/// How long an exchange may take, in seconds. How long the system takes to look up a name is not bounded.
+/// How long an exchange may take, in seconds. The time in which the system looks up a name counts, but has no limit.
 const MOST_SECONDS: u64 = 30;
 
 /// For how many seconds a server that used up its time is not asked again.
 const REST_SECONDS: u64 = 5;
 
-/// When the latest exchange began, and when a server last used up the time of an exchange. If the clock can't be read,
-/// no time counts as passed.
+/// When the latest exchange began, and when the server last used up the time of an exchange. If the clock can't be
+/// read, no time counts as passed.
 #[derive(Clone, Copy)]
 pub(crate) struct Exchange {
     begun: Option<Instant>,
@@ -42,7 +42,7 @@ impl Exchange {
         MOST_SECONDS.saturating_sub(seconds_between(self.begun, now))
     }
 
-    /// Notes that a call failed: if no time is left, the server used it up.
+    /// Handles a failed call of the exchange: if no second is left, notes that the server used up the time.
     pub fn note_fault(&mut self, now: Option<Instant>)
         ensures { self.new ≡ record self.old { over = if seconds_left self.old now == 0 then now else self.old.over } }
     {

@@ -1,17 +1,18 @@
-//! The number of connections that a door may hold.
+//! The limit on the number of connections of a door, including those that links serve.
 ghost use Rattle.std.specs.Prelude.{◌≤◌, ◌<◌};
 
 use libc::types::rlimit;
 use libc::{RLIMIT_NOFILE, getrlimit};
 
-/// The most connections that a door holds.
+/// The highest limit on the connections of a door.
 const MOST_CONNECTIONS: u64 = 16_384;
 
 /// How many file descriptors are reserved for the rest of the program.
 const RESERVED: u64 = 64;
 
-/// How many connections a door may hold: the process's limit of file descriptors, less those for the rest of the
-/// program, and 16,384 at most. 512 if the limit can't be read.
+/// The limit on the connections of a door: the process's limit of file descriptors, less 64 for the rest of the program
+/// (or half of it if it is below 128), but at most 16,384 and at least 1. It is 512 if the process's limit can't be
+/// read.
 pub(crate) fn most_connections() -> usize
     ensures some { 0 < result }
     ensures most { result ≤ 16384 }
@@ -26,7 +27,7 @@ pub(crate) fn most_connections() -> usize
     most_of(limit.rlim_cur)
 }
 
-/// How many connections a door may hold if the process may open `limit` descriptors: half of them if `limit` is below 128.
+/// The limit on the connections of a door if the process may open `limit` descriptors.
 fn most_of(limit: u64) -> usize
     ensures some { 0 < result }
     ensures most { result ≤ 16384 }

@@ -51,7 +51,8 @@ fn is_temporary(fault: &io::Error) -> bool {
     }
 }
 
-/// How many connections were accepted, how many may be accepted in all, and the log of failed accepts.
+/// How many connections were accepted, how many may be accepted in all, and whether accepting fails, for now or for
+/// good.
 #[derive(Clone, Copy)]
 pub(crate) struct Accepting {
     pub log: Log,
@@ -119,7 +120,7 @@ impl Accepting {
         }
     }
 
-    /// Notes that an accept succeeded, and logs it if the previous accept failed.
+    /// Notes that an accept succeeded, and logs it if a failure was noted since the last success.
     fn note_well<N: Eprint>(&mut self, net: &N)
         ensures { (self.new.bound ≡ self.old.bound) × (self.new.accepted ≡ self.old.accepted) }
     {
@@ -128,7 +129,8 @@ impl Accepting {
         }
     }
 
-    /// Notes that an accept failed for now, logs it unless the previous accept failed too, and pauses.
+    /// Notes that an accept failed with a temporary error, logs it if it is the first since the last success, and
+    /// pauses.
     fn note_fault<N: Eprint + Clock>(&mut self, net: &N, fault: &io::Error)
         ensures { (self.new.bound ≡ self.old.bound) × (self.new.accepted ≡ self.old.accepted) }
     {
@@ -227,7 +229,8 @@ fn stream_of<N: Net + Clock + Eprint + Wait + Copy + Drop>(
     }
 }
 
-/// Handles a failed accept: no connection is pending, or the error is temporary or permanent.
+/// Handles a failed accept. If no connection is pending, the door accepts again only after an event. A permanent error
+/// ends accepting. A temporary one is logged, or, if descriptors or memory are short, waiting connections are closed.
 #[tactic(auto, using(crate::proofs::Accounting::same))]
 fn note_failed<N: Net + Clock + Eprint + Wait + Copy + Drop>(
     net: N,
@@ -253,7 +256,8 @@ fn note_failed<N: Net + Clock + Eprint + Wait + Copy + Drop>(
     accepting.note_fault(&net, &fault);
 }
 
-/// Handles a shortage of descriptors or memory: closes connections that wait, or pauses if there are none.
+/// Handles a shortage of descriptors or memory: closes connections that wait, or notes the error and pauses if there
+/// are none.
 #[tactic(auto, using(crate::proofs::Accounting::same))]
 fn note_shortage<N: Net + Clock + Eprint + Wait + Copy + Drop>(
     net: N,
@@ -270,8 +274,8 @@ fn note_shortage<N: Net + Clock + Eprint + Wait + Copy + Drop>(
     }
 }
 
-/// Takes in the stream of a connection that was accepted. A stream that can't be set up is dropped, and not counted as
-/// accepted.
+/// Takes in the stream of a connection that was accepted. A stream that can't be set up is dropped: the connection
+/// counts as ended, but not towards the bound.
 fn take_in<N: Net + Clock + Eprint + Wait + Copy + Drop>(
     alloc: Global,
     net: N,
@@ -290,7 +294,7 @@ fn take_in<N: Net + Clock + Eprint + Wait + Copy + Drop>(
     }
 }
 
-/// Takes in a connection that was accepted, and counts it.
+/// Takes in a connection that was accepted, and counts it towards the bound.
 #[tactic(auto, using(crate::proofs::Accounting::then_one))]
 fn take_in_counted<N: Net + Clock + Eprint + Wait + Copy + Drop>(
     net: N,
@@ -324,6 +328,9 @@ fn note_if_accepted_all<S: Read + Write + OpenStream + AsRawFd + Drop>(
 
 /// Listens at a port: on IPv6 and IPv4 if one IPv6 socket serves both, otherwise on IPv4. The IPv6 socket serves both
 /// if no IPv4 socket can be bound at the same port as well.
+///
+/// # Errors
+/// Neither an IPv6 nor an IPv4 socket can be bound at the port.
 pub(crate) fn bind_all<N: Net>(net: &N, port: u16) -> io::Result<N::Listener> {
     let Ok(both) = TcpListener::bind(net, (Ipv6Addr::UNSPECIFIED, port)) else {
         return bind_four(net, port);
@@ -339,7 +346,10 @@ fn bind_four<N: Net>(net: &N, port: u16) -> io::Result<N::Listener> {
     TcpListener::bind(net, (Ipv4Addr::UNSPECIFIED, port))
 }
 
-/// Listens at a port, with a reactor for its connections.
+/// Listens at a port, with a reactor for its connections. `most` is the limit on their number ([`Reactor::new`]).
+///
+/// # Errors
+/// The port can't be listened at, or out of memory.
 fn open_at<N: Net>(
     alloc: Global,
     net: &N,
@@ -353,7 +363,7 @@ fn open_at<N: Net>(
     Ok((listener, reactor))
 }
 
-/// Logs the address that a listener is open at.
+/// Logs the address that a listener is open at, unless the system can't return it.
 pub(crate) fn log_open<N: Eprint, L: OpenListener>(net: &N, listener: &L, log: &mut Log) {
     if let Ok(address) = listener.local_addr() {
         log.line(net, format_args!("listening at {address}"));

@@ -26,7 +26,7 @@ impl Logged {
         Logged { last: WELL }
     }
 
-    /// Notes the present state, and returns whether it is to be logged.
+    /// Notes the state `now`, and returns whether it is to be logged: it differs from the state noted before.
     pub fn is_news(&mut self, now: u16) -> bool
         ensures news { result ≡ not (now == self.old.last) }
         ensures noted { self.new.last ≡ now }
@@ -37,8 +37,8 @@ impl Logged {
     }
 }
 
-/// Whether the error stream takes a line without blocking. A pipe is ready for writing while at least one page of it is
-/// free, and a line is shorter than a page.
+/// Whether the error stream takes a line without blocking. Also true if `poll` fails. A pipe is ready for writing while
+/// at least one page of it is free, and a line is shorter than a page.
 fn takes_line() -> bool {
     let mut asked = [pollfd {
         fd: ERRORS,
@@ -48,7 +48,7 @@ fn takes_line() -> bool {
     poll(&mut asked, 0) != 0
 }
 
-/// The log, which counts the lines that were dropped.
+/// The log, which counts the lines that were dropped since this count was last logged.
 #[derive(Clone, Copy)]
 pub struct Log {
     dropped: u64,
@@ -60,7 +60,8 @@ impl Log {
         Log { dropped: 0 }
     }
 
-    /// Writes a line, or drops it if the error stream would block.
+    /// Writes a line, or drops it if the error stream would block. If lines were dropped before, first writes how many.
+    /// An error of the stream is ignored.
     pub fn line<E: Eprint, D: Display + Drop>(&mut self, to: &E, line: D) {
         if self.dropped > 0 && takes_line() {
             let dropped = self.dropped;

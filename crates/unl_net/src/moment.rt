@@ -4,12 +4,12 @@ ghost use Rattle.unl_net.specs.Moments.{seconds_between};
 
 use std::time::{Clock, Instant};
 
-/// The present moment.
+/// The present moment. `None`: the clock can't be read.
 pub(crate) fn moment<C: Clock>(clock: &C) -> Option<Instant> {
     Instant::now(clock).ok()
 }
 
-/// The whole seconds between two moments: 0 if either is unknown.
+/// The whole seconds between two moments: 0 if either is unknown, or if `now` is the earlier one.
 pub(crate) fn seconds_between(begun: Option<Instant>, now: Option<Instant>) -> u64
     ensures { result ≡ seconds_between begun now }
 {

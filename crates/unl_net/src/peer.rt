@@ -46,7 +46,9 @@ impl<N: Net + Clock + Eprint + Drop, A: ToSocketAddrs + Display> RealPeer<N, A> 
         }
     }
 
-    /// Notes that a read or a write failed, logs that if it is news, and counts it.
+    /// Counts a read or a write that failed, and notes if the exchange has used up its time. If nothing of a reply to
+    /// the current request was read, logs that there is no reply, unless this is what was last logged for this kind of
+    /// request.
     fn note_failed_call(&mut self)
         ensures stream { self.new.stream ≡ self.old.stream }
         ensures rises { (self.old.faults ≤ self.new.faults) × Rose self.old.faults self.new.faults }
@@ -57,10 +59,10 @@ impl<N: Net + Clock + Eprint + Drop, A: ToSocketAddrs + Display> RealPeer<N, A> 
     }
 }
 
-/// Sets the time limit of a stream's calls to the seconds that are left, if it differs.
+/// Sets the time limit of a stream's calls to the seconds that are left, if these differ from `limit`, the present one.
 ///
 /// # Errors
-/// No second is left, or the error of the stream.
+/// `TimedOut` if no second is left, or the error of the stream.
 fn set_limit<S: OpenStream>(stream: &S, left: u64, limit: &mut u64) -> io::Result<()> {
     if left == 0 {
         return Err(io::Error::from(ErrorKind::TimedOut));
@@ -75,6 +77,10 @@ fn set_limit<S: OpenStream>(stream: &S, left: u64, limit: &mut u64) -> io::Resul
 }
 
 /// Connects to the first address of a name that accepts a connection, within the time of the exchange.
+///
+/// # Errors
+/// The error of looking up the name; `NotFound` if the name has no address; `TimedOut` if no time is left; or the error
+/// of the last address.
 fn connect_in_time<N: Net + Clock, A: ToSocketAddrs>(
     net: &N,
     address: &A,
@@ -99,6 +105,9 @@ fn connect_in_time<N: Net + Clock, A: ToSocketAddrs>(
 }
 
 /// Reads once, within the time of the exchange.
+///
+/// # Errors
+/// `TimedOut` if no time is left, or the error of the stream.
 fn read_in_time<N: Clock, S: Read + OpenStream>(
     clock: &N,
     stream: &mut S,
@@ -114,6 +123,9 @@ fn read_in_time<N: Clock, S: Read + OpenStream>(
 }
 
 /// Writes once, within the time of the exchange.
+///
+/// # Errors
+/// `TimedOut` if no time is left, or the error of the stream.
 fn write_in_time<N: Clock, S: Write + OpenStream>(
     clock: &N,
     stream: &mut S,
@@ -138,7 +150,8 @@ impl<N: Net + Clock + Eprint + Drop, A: ToSocketAddrs + Display> Source for Real
 
     ghost other_parts = { λ peer. record no_other_parts { connected = is_some peer.stream } };
 
-    /// Reads from the last connection. Returns 0 if there is none.
+    /// Reads from the connection that the last `connect` made. Returns 0 if it made none. On an error the fault count
+    /// is incremented.
     fn read(&mut self, room: &mut [u8]) -> Result<usize, Failed>
         requires { 0 < length room.old }
         ensures fits { IfOk result (λ n. n ≤ length room.new) }
@@ -172,7 +185,8 @@ impl<N: Net + Clock + Eprint + Drop, A: ToSocketAddrs + Display> Sink for RealPe
 
     ghost other_parts = { λ peer. record no_other_parts { connected = is_some peer.stream } };
 
-    /// Writes to the last connection, and returns how many bytes it took. If there is none, the whole piece is dropped.
+    /// Writes to the connection that the last `connect` made, and returns how many bytes it took. If there is none, the
+    /// whole piece is dropped. If the write fails or takes no byte, the fault count is incremented.
     fn write(&mut self, piece: &[u8]) -> Result<usize, Failed>
         requires { 0 < length piece.now }
         ensures some { IfOk result (λ n. 0 < n) }

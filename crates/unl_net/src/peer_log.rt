@@ -1,4 +1,5 @@
-//! What a peer logs: whether its server can be reached, and the statuses of its replies.
+//! What a peer (the client side of a connection) logs: whether its server can be reached, and the statuses of the
+//! server's replies.
 
 use crate::log::{Log, Logged, WELL};
 use crate::status_log::{LoggedStatus, StatusLog};
@@ -6,10 +7,10 @@ use std::fmt::Display;
 use std::io;
 use std::net::ToSocketAddrs;
 
-/// The logged state of a peer that can't be reached.
+/// The logged state if the server can't be reached.
 const UNREACHABLE: u16 = 1;
 
-/// The log of a peer at an address, and what it logged last.
+/// The log of a peer, the address of its server, and what was logged last.
 #[derive(Drop)]
 pub(crate) struct PeerLog<A: ToSocketAddrs + Display> {
     pub address: A,
@@ -19,7 +20,7 @@ pub(crate) struct PeerLog<A: ToSocketAddrs + Display> {
 }
 
 impl<A: ToSocketAddrs + Display> PeerLog<A> {
-    /// The log of the peer at this address, before anything was logged.
+    /// The log of a peer whose server is at this address, before anything was logged.
     pub fn new(address: A) -> Self {
         PeerLog {
             address,
@@ -29,7 +30,7 @@ impl<A: ToSocketAddrs + Display> PeerLog<A> {
         }
     }
 
-    /// Logs that the peer is reachable again, if it was not.
+    /// Notes that the server was reached, and logs that it is reachable again if it was not.
     pub fn note_reached<E: Eprint>(&mut self, to: &E) {
         if self.logged.is_news(WELL) {
             let address = &self.address;
@@ -38,7 +39,7 @@ impl<A: ToSocketAddrs + Display> PeerLog<A> {
         }
     }
 
-    /// Logs why the peer can't be reached, once.
+    /// Notes that the server can't be reached, and logs why, once until it is reached again.
     pub fn note_unreachable<E: Eprint>(&mut self, to: &E, fault: &io::Error) {
         if self.logged.is_news(UNREACHABLE) {
             let address = &self.address;
@@ -52,13 +53,14 @@ impl<A: ToSocketAddrs + Display> PeerLog<A> {
     }
 
     /// Notes that a piece of a request is written. If the last reply to this kind of request was a feed, the new
-    /// request shows whether this program accepted the feed: it then has the feed's tag. Logs the feed's status, if it has changed.
+    /// request shows whether this program accepted the feed: if so, it has the feed's tag. Logs the feed's status, if
+    /// its class has changed.
     pub fn note_written<E: Eprint>(&mut self, to: &E, piece: &[u8]) {
         let status = self.statuses.note_written(piece);
         self.log_status(to, status);
     }
 
-    /// Notes the bytes of a read (none if the read failed). Logs the status of the reply, if it has changed.
+    /// Notes the bytes of a read (none if the read failed). Logs the status of the reply, if its class has changed.
     pub fn note_read<E: Eprint>(&mut self, to: &E, bytes: &[u8]) {
         let status = self.statuses.note_read(bytes);
         self.log_status(to, status);

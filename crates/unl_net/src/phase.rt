@@ -1,4 +1,5 @@
-//! What a connection waits for while no link serves it.
+//! What a connection waits for while no link serves it. Received bytes are refused if no valid request begins with
+//! them, whatever follows.
 ghost use Rattle.std.specs.Prelude.{◌≡◌, true, false};
 ghost use Rattle.unl_net.specs.Phases.{limit_of, phase_of, waits};
 ghost use Rattle.unl_net.specs.declared.phase.Phase.TheVariants.{Over, Ready};
@@ -12,9 +13,9 @@ pub(crate) enum Phase {
     Receiving,
     /// A link to serve it: a whole request was received, or bytes that are refused.
     Ready,
-    /// The client, to take the rest of an answer.
+    /// The client, to take the rest of a reply.
     Sending,
-    /// The client to shut down its side, after the last answer.
+    /// The client, to shut down its side after the last reply.
     Draining,
     /// Nothing: the connection is over.
     Over,
@@ -25,9 +26,9 @@ pub(crate) enum Phase {
 pub(crate) struct Facts {
     /// A whole request was received, or bytes that are refused.
     pub asked: bool,
-    /// Some byte was received that no link has read.
+    /// A byte was received that no link has read.
     pub began: bool,
-    /// Some byte of an answer is still to be sent.
+    /// A byte of a reply is still to be sent.
     pub owes: bool,
     /// The connection is to be closed once all bytes are sent.
     pub closing: bool,
@@ -39,10 +40,11 @@ pub(crate) struct Facts {
 pub(crate) fn phase_of(known: Facts) -> Phase
     ensures exact { result ≡ phase_of known }
 
-    // No client is cut off: a connection is over only if its client has shut down its side and no answer is on its way.
+    // No client is cut off: a connection is over only if its client has shut down its side and no reply is on its way.
     ensures over { result ≡ Over → (known.ended ≡ true) × (known.owes ≡ false) }
 
-    // A whole request is served, whatever the client does after it.
+    // A whole request is served once the earlier replies are sent, whatever the client does after it, unless the
+    // connection is to be closed.
     ensures served { known.asked ≡ true → known.owes ≡ false → known.closing ≡ false → result ≡ Ready }
 {
     if known.owes {
@@ -75,8 +77,8 @@ impl Phase {
         }
     }
 
-    /// The maximum number of seconds that a connection may stay in this phase. It is 0 for the phases in which it
-    /// doesn't wait for its client.
+    /// For how many seconds a connection in this phase may wait for its client, counted anew when bytes are sent; 0 if
+    /// it doesn't wait for its client.
     pub fn limit(self) -> u64
         ensures { result ≡ limit_of self }
     {

@@ -28,16 +28,16 @@ use std::time::{Clock, Duration, Instant};
 /// How many events are taken at once at most.
 const MOST_EVENTS: usize = 256;
 
-/// The token of the listener.
+/// The token by which events name the listener.
 const LISTENER: usize = 0;
 
-/// The token of the waker.
+/// The token by which events name the waker, which ends a wait of the door.
 const WAKER: usize = 1;
 
-/// The token of the first connection.
+/// The token by which events name the connection with the key 0. The others follow.
 const FIRST: usize = 2;
 
-/// The connections of a door that no link serves: those that wait for their clients, and those that are ready for a link.
+/// The connections of a door that no link serves: some wait for their clients, the others are ready for a link.
 #[derive(Drop)]
 pub(crate) struct Reactor<S: Read + Write + OpenStream + AsRawFd + Drop> {
     alloc: Global,
@@ -54,13 +54,14 @@ pub(crate) struct Reactor<S: Read + Write + OpenStream + AsRawFd + Drop> {
     pub(crate) swept: Option<Instant>,
     /// The number of received bytes in the buffers of all connections that wait.
     pub(crate) received: u64,
-    /// The maximum number of connections, including those of links, plus 1 for the door. It is exceeded only if links hold all connections.
+    /// The maximum number of connections, including those of links. If links hold all connections, more are accepted
+    /// nevertheless. `note_shortage` lowers it.
     most: usize,
     /// How many connections have ended here. It stops at 2^64 - 1.
     pub(crate) ended: u64,
-    /// Whether the door closes with the last connection that is served.
+    /// Whether the door closes when it hands out the last connection, since as many were accepted as its bound allows.
     pub(crate) closes: bool,
-    /// Whether accepting failed for good: each connection is then closed after its answers.
+    /// Whether accepting failed for good: each connection is then closed after its replies.
     pub(crate) is_ending: bool,
     /// When accepting failed for good.
     pub(crate) ending_since: Option<Instant>,
@@ -74,7 +75,7 @@ pub(crate) struct Reactor<S: Read + Write + OpenStream + AsRawFd + Drop> {
 
 impl<S: Read + Write + OpenStream + AsRawFd + Drop> Reactor<S> {
     /// Returns a reactor for a listener, without connections. `most` is the maximum number of connections, including
-    /// those of links, plus 1 for the door: once it is reached, a connection that waits is closed before another is accepted.
+    /// those of links: once it is reached, a connection that waits is closed before another is accepted.
     ///
     /// # Errors
     /// The error of the system, or out of memory.
@@ -112,7 +113,7 @@ impl<S: Read + Write + OpenStream + AsRawFd + Drop> Reactor<S> {
         })
     }
 
-    /// Takes the next connection that is ready for a link.
+    /// Takes the next connection that is ready for a link, if there is one.
     pub fn next_ready(&mut self) -> Option<Connection<S>>
         ensures waiting { self.new.waiting ≡ self.old.waiting }
         ensures ready { self.old.ready.items ≡ option_to_list result ++ self.new.ready.items }
@@ -141,12 +142,13 @@ impl<S: Read + Write + OpenStream + AsRawFd + Drop> Reactor<S> {
         Arc::strong_count(&self.shared) <= 1
     }
 
-    /// Whether there are as many connections as allowed.
+    /// Whether there are as many connections as allowed, or more.
     pub fn is_full(&self) -> bool {
         self.live() >= self.most
     }
 
-    /// Makes room for one more connection. Returns false if no connection waits that could be closed.
+    /// Makes room for one more connection: if there are as many as allowed, closes one that waits. Returns false if
+    /// none waits that could be closed.
     #[tactic(auto, using(crate::proofs::Accounting::same))]
     pub fn make_room(&mut self) -> bool
         ensures accounts { Accounts 0 (slab_len self.old.waiting + deque_len self.old.ready) self.old.ended
@@ -158,16 +160,17 @@ impl<S: Read + Write + OpenStream + AsRawFd + Drop> Reactor<S> {
         self.close_oldest()
     }
 
-    /// How many connections there are, including those of links, plus 1 for the door.
+    /// How many connections there are, including those of links. Each link holds a reference to what is shared, and so
+    /// does the door.
     fn live(&self) -> usize {
         self.waiting
             .len()
             .saturating_add(self.ready.len())
-            .saturating_add(Arc::strong_count(&self.shared))
+            .saturating_add(Arc::strong_count(&self.shared).saturating_sub(1))
     }
 
-    /// Handles a lack of file descriptors: closes some of the connections that wait, and allows fewer connections from
-    /// now on. Returns false if none waits that could be closed.
+    /// Handles a lack of file descriptors, or of memory for one: closes up to 8 of the connections that wait, and from
+    /// now on allows 8 fewer than there were before, at least 1. Returns false if none waits that could be closed.
     pub fn note_shortage(&mut self) -> bool
         ensures accounts { Accounts 0 (slab_len self.old.waiting + deque_len self.old.ready) self.old.ended
             (slab_len self.new.waiting + deque_len self.new.ready) self.new.ended }
@@ -188,7 +191,8 @@ impl<S: Read + Write + OpenStream + AsRawFd + Drop> Reactor<S> {
         self.advance_and_place(clock, connection);
     }
 
-    /// Takes back the connections that links returned, and returns how many these were. Each of them waits, is ready or has ended.
+    /// Takes back the connections that links returned, and returns how many these were. Each of them waits, is ready or
+    /// has ended.
     #[tactic(auto, using(crate::proofs::Accounting::same, crate::proofs::Accounting::step_one))]
     pub fn take_back<C: Clock + Wait>(&mut self, clock: &C) -> u64
         ensures accounts { Accounts result (slab_len self.old.waiting + deque_len self.old.ready) self.old.ended
@@ -203,7 +207,7 @@ impl<S: Read + Write + OpenStream + AsRawFd + Drop> Reactor<S> {
         u64::MAX
     }
 
-    /// Places a connection that a link gave back. It is read at once only if it is to be closed.
+    /// Places a connection that a link gave back. Its stream is read at once only if the connection is to be closed.
     fn place_back<C: Clock>(&mut self, clock: &C, connection: Connection<S>)
         ensures accounts { Accounts 1 (slab_len self.old.waiting + deque_len self.old.ready) self.old.ended
             (slab_len self.new.waiting + deque_len self.new.ready) self.new.ended }
@@ -224,7 +228,8 @@ impl<S: Read + Write + OpenStream + AsRawFd + Drop> Reactor<S> {
         }
     }
 
-    /// Advances a connection, and places it by its new phase.
+    /// Advances a connection (sends what is to be sent, then reads what came), and places it by its new phase. If that
+    /// fails, the connection ends.
     fn advance_and_place<C: Clock>(&mut self, clock: &C, connection: Connection<S>)
         ensures accounts { Accounts 1 (slab_len self.old.waiting + deque_len self.old.ready) self.old.ended
             (slab_len self.new.waiting + deque_len self.new.ready) self.new.ended }
@@ -240,7 +245,8 @@ impl<S: Read + Write + OpenStream + AsRawFd + Drop> Reactor<S> {
         }
     }
 
-    /// Places a connection by its phase: it is ended, ready for a link, or waits.
+    /// Places a connection by its phase: it ends, is ready for a link, or waits. If waiting for events failed for good,
+    /// it ends instead of waiting.
     pub(crate) fn place(&mut self, connection: Connection<S>)
         ensures accounts { Accounts 1 (slab_len self.old.waiting + deque_len self.old.ready) self.old.ended
             (slab_len self.new.waiting + deque_len self.new.ready) self.new.ended }
@@ -266,7 +272,7 @@ impl<S: Read + Write + OpenStream + AsRawFd + Drop> Reactor<S> {
                 && (phase == Phase::Idle || phase == Phase::Receiving))
     }
 
-    /// Adds a connection to those that are ready for a link.
+    /// Adds a connection to those that are ready for a link. If an allocation fails, the connection is cut off.
     #[tactic(auto, using(crate::proofs::Accounting::pushed, crate::proofs::Accounting::reserved))]
     fn make_ready(&mut self, connection: Connection<S>)
         ensures accounts { Accounts 1 (slab_len self.old.waiting + deque_len self.old.ready) self.old.ended
@@ -299,7 +305,8 @@ impl<S: Read + Write + OpenStream + AsRawFd + Drop> Reactor<S> {
         self.ended = self.ended.saturating_add(1);
     }
 
-    /// Makes the last connection ready for a link. Its buffers are emptied, so that the link reads nothing and ends.
+    /// Makes the last connection ready for a link. Its buffers are emptied, so that the link reads nothing and ends. If
+    /// an allocation fails, the connection is counted as ended instead.
     #[tactic(auto, using(crate::proofs::Accounting::pushed, crate::proofs::Accounting::ended))]
     fn serve_last(&mut self, connection: Connection<S>)
         ensures accounts { Accounts 1 (slab_len self.old.waiting + deque_len self.old.ready) self.old.ended
@@ -316,7 +323,7 @@ impl<S: Read + Write + OpenStream + AsRawFd + Drop> Reactor<S> {
         }
     }
 
-    /// Adds a connection to those that wait for their clients. If an allocation fails, it is cut off.
+    /// Adds a connection to those that wait for their clients. If an allocation fails, the connection is cut off.
     #[tactic(auto, using(crate::proofs::Accounting::waits, crate::proofs::Accounting::same))]
     fn wait_for(&mut self, connection: Connection<S>)
         ensures accounts { Accounts 1 (slab_len self.old.waiting + deque_len self.old.ready) self.old.ended
@@ -334,7 +341,8 @@ impl<S: Read + Write + OpenStream + AsRawFd + Drop> Reactor<S> {
         }
     }
 
-    /// Registers a connection that waits, and enforces the bound on the bytes that all connections have received.
+    /// Registers a waiting connection for events, and cuts one off if all waiting connections together have received
+    /// too many bytes.
     #[tactic(auto, using(crate::proofs::Accounting::step))]
     fn watch(&mut self, key: usize, fd: RawFd, interest: Interest)
         ensures accounts { Accounts 0 (slab_len self.old.waiting + deque_len self.old.ready) self.old.ended
@@ -344,7 +352,8 @@ impl<S: Read + Write + OpenStream + AsRawFd + Drop> Reactor<S> {
         self.bound_received()
     }
 
-    /// Registers a connection that waits for events. If that fails, which happens only if memory runs out, the connection is cut off.
+    /// Registers a waiting connection for events. If that fails, which happens only if memory runs out, the connection
+    /// is cut off.
     #[tactic(auto, using(crate::proofs::Accounting::same))]
     fn register(&mut self, key: usize, fd: RawFd, interest: Interest)
         ensures accounts { Accounts 0 (slab_len self.old.waiting + deque_len self.old.ready) self.old.ended
@@ -360,7 +369,7 @@ impl<S: Read + Write + OpenStream + AsRawFd + Drop> Reactor<S> {
         }
     }
 
-    /// Removes a connection from those that wait.
+    /// Removes the connection with this key from those that wait, if there is one.
     pub(crate) fn take(&mut self, key: usize) -> Option<Connection<S>>
         ensures some { OnSome result (slab_len self.new.waiting + 1 ≡ slab_len self.old.waiting) }
         ensures none { IfNone result (slab_len self.new.waiting ≡ slab_len self.old.waiting) }
@@ -375,8 +384,8 @@ impl<S: Read + Write + OpenStream + AsRawFd + Drop> Reactor<S> {
         Some(connection)
     }
 
-    /// Waits for events, for `most` milliseconds at most, and handles them. A link that gives a connection back ends the wait, if
-    /// [`SharedWithLinks::note_sleep`] was called before.
+    /// Waits for events, for `most` milliseconds at most, and handles them. A signal ends the wait early. So does a
+    /// link that gives a connection back, if [`SharedWithLinks::note_sleep`] was called before.
     ///
     /// # Errors
     /// The error of the system.
@@ -425,7 +434,7 @@ impl<S: Read + Write + OpenStream + AsRawFd + Drop> Reactor<S> {
         }
     }
 
-    /// Handles the event of a connection.
+    /// Handles the event of the waiting connection with this key: advances it, and keeps it waiting or places it.
     #[tactic(auto, using(crate::proofs::Accounting::same, crate::proofs::Accounting::placed, crate::proofs::Accounting::waits_again))]
     fn handle_event<C: Clock>(&mut self, clock: &C, key: usize)
         ensures accounts { Accounts 0 (slab_len self.old.waiting + deque_len self.old.ready) self.old.ended
@@ -480,7 +489,8 @@ fn note_tokens(events: &Events, keys: &mut Vec<usize>) -> bool {
     may_accept
 }
 
-/// The event that a connection waits for.
+/// The event that a connection waits for: that it can be written if bytes are to be sent, and otherwise that it can be
+/// read.
 fn interest_of<S: Read + Write + OpenStream + Drop>(connection: &Connection<S>) -> Interest {
     if connection.to_send.is_empty() {
         Interest::READABLE

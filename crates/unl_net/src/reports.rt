@@ -1,4 +1,4 @@
-//! The counts of a door, and when it logs them. The connections that were cut off and the answers with a status of 500
+//! The counts of a door, and when it logs them. The connections that were cut off and the replies with a status of 500
 //! or more are logged once a minute at most.
 ghost use Rattle.std.specs.Prelude.{◌≡◌, ◌+◌, ◌-◌, ◌^◌, min};
 
@@ -11,7 +11,7 @@ use std::time::Instant;
 pub(crate) struct Reports {
     cuts: EachMinute,
     errors: EachMinute,
-    /// How many answers had a status of 500 or more since that was last logged.
+    /// How many replies had a status of 500 or more since their number was last logged.
     server_errors: u64,
     /// How many links were handed out since the door last waited for events.
     pub in_a_row: u64,
@@ -38,7 +38,7 @@ impl Reports {
         self.arrived = self.arrived.saturating_add(count);
     }
 
-    /// Logs how many connections were cut off, if that is due.
+    /// Logs how many connections were cut off since the last such line, if that is due. `cuts` then begins again at 0.
     pub fn log_cuts<E: Eprint>(
         &mut self,
         to: &E,
@@ -53,7 +53,7 @@ impl Reports {
         }
     }
 
-    /// Counts `count` more answers with a status of 500 or more. Logs how many there were since the last such line, if
+    /// Counts `count` more replies with a status of 500 or more. Logs how many there were since the last such line, if
     /// that is due.
     pub fn log_server_errors<E: Eprint>(
         &mut self,

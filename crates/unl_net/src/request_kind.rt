@@ -45,8 +45,8 @@ fn logged_count(prefix: &[u8]) -> usize
     prefix.len()
 }
 
-/// How many bytes of a request are logged: its method and its path, 64 bytes at most, and nothing of a query or a
-/// field.
+/// How many bytes of a request are logged: its method and its path, up to the first byte that may not be logged and 64
+/// bytes at most. Nothing of a query or a header field is logged.
 #[tactic(auto, using(crate::proofs::LoggedText::cut_short, crate::proofs::LoggedText::cut_logged, crate::proofs::LoggedText::same_text))]
 fn logged_len(request: &[u8]) -> usize
     ensures exact { take result request.now ≡ logged_text request.now }
@@ -57,23 +57,23 @@ fn logged_len(request: &[u8]) -> usize
     logged_count(&request[..MOST_LOGGED.min(request.len())])
 }
 
-/// A kind of request: the text that is logged for it, and a key that identifies the kind. Requests with different
-/// tokens are of different kinds, since their replies may differ.
+/// A kind of request: the text that is logged for it, and a key (a hash) that distinguishes the kinds. Requests with
+/// different tokens are of different kinds, since their replies may differ.
 #[derive(Clone, Copy)]
 pub(crate) struct RequestKind {
     text: [u8; MOST_LOGGED],
     len: usize,
     pub key: u64,
-    /// Whether it asks for a feed of flags: its path begins with `/api/client/`.
+    /// Whether the request is for a feed of flags: a GET whose path begins with `/api/client/`.
     pub is_feed: bool,
-    /// Whether it has the tag of an earlier reply (`If-None-Match`).
+    /// Whether the request has the tag of an earlier reply (`If-None-Match`).
     pub has_tag: bool,
     ghost fits: { len ≤ 64 },
     ghost logged: { All (λ byte. is_loggable byte ≡ true) (take len text) },
 }
 
 impl RequestKind {
-    /// The kind of a request with these first bytes.
+    /// The kind of a request with these first bytes. A header field that is not among them is not considered.
     pub fn of(request: &[u8]) -> Self
         ensures { take result.len result.text ≡ logged_text request.now }
     {
@@ -118,7 +118,7 @@ fn copy_prefix(bytes: &[u8], room: &mut [u8], count: usize)
     room[..count].copy_from_slice(&bytes[..count]);
 }
 
-/// The line of a request that begins with `name`, or no bytes if there is none.
+/// The first line of a request that begins with `name`, in this letter case, or no bytes if there is none.
 fn line_of<'a>(request: &'a [u8], name: &[u8]) -> &'a [u8] {
     for line in request.split(|byte| *byte == b'\n') {
         if line.starts_with(name) {
@@ -128,7 +128,8 @@ fn line_of<'a>(request: &'a [u8], name: &[u8]) -> &'a [u8] {
     b""
 }
 
-/// The key of a kind of request: the FNV-1a hash of its logged text and its line with the token, with the lowest bit set, so never 0.
+/// The key of a kind of request: the FNV-1a hash of its logged text and its line with the token, with the lowest bit
+/// set, so that it is never 0.
 fn key_of(text: &[u8], line: &[u8]) -> u64 {
     mixed(mixed(0xcbf2_9ce4_8422_2325, text), line) | 1
 }

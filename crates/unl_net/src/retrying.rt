@@ -6,7 +6,7 @@ ghost use Rattle.std.specs.Io.KnownBytes.{ReadConsumes, WriteAppends};
 use std::io;
 use std::io::{ErrorKind, Read, Write};
 
-/// How often a call is tried. No process gets that many signals during one call.
+/// How many times a call is tried at most. No process gets that many signals during one call.
 const MOST_TRIES: usize = 1_000;
 
 /// Whether a signal interrupted the call.
@@ -20,6 +20,9 @@ fn is_interrupted<T>(tried: &io::Result<T>) -> bool
 }
 
 /// Reads once. A read that a signal interrupted is tried again.
+///
+/// # Errors
+/// The error of the reader. `Interrupted` only if signals interrupted all `MOST_TRIES` reads.
 #[tactic(auto, using(crate::proofs::Trying::stays, crate::proofs::Trying::read_then, crate::proofs::Trying::read_failed))]
 pub(crate) fn read_once<R: Read>(reader: &mut R, room: &mut [u8]) -> io::Result<usize>
     ensures bound { ReadsAtMost result room.new }
@@ -35,6 +38,9 @@ pub(crate) fn read_once<R: Read>(reader: &mut R, room: &mut [u8]) -> io::Result<
 }
 
 /// Writes once. A write that a signal interrupted is tried again.
+///
+/// # Errors
+/// The error of the writer. `Interrupted` only if signals interrupted all `MOST_TRIES` writes.
 #[tactic(auto, using(crate::proofs::Trying::stays, crate::proofs::Trying::write_then, crate::proofs::Trying::write_failed))]
 pub(crate) fn write_once<W: Write>(writer: &mut W, piece: &[u8]) -> io::Result<usize>
     ensures bound { WritesAtMost result piece.now }

@@ -13,25 +13,26 @@ use std::net::OpenStream;
 use std::sync::{Arc, Wait};
 use std::time::Clock;
 
-/// The maximum number of waits of 10 milliseconds in a read or a write: 30 seconds in all.
+/// The maximum number of waits of 10 milliseconds in a write, or in a read at the stage `Open`: 30 seconds in all.
 const MOST_WAITS: u64 = 3_000;
 
-/// The minimum number of these waits in a read, even while other links wait for a worker.
+/// While other links wait for a worker, a read at the stage `Open` ends without a byte only after more than this number
+/// of waits of 10 milliseconds.
 const FEW_WAITS: u64 = 10;
 
 /// The maximum number of waits of 10 milliseconds for a further request if the thread that accepts also serves the
 /// link: the door accepts nothing meanwhile.
 const MOST_WAITS_ALONE: u64 = 64;
 
-/// The maximum number of pieces that are read of an unfinished request.
+/// The maximum number of pieces (of 4,096 bytes at most) that are read of an unfinished request.
 const MOST_REQUEST_PIECES: u64 = 300;
 
 /// The stage of a link.
 #[derive(Clone, Copy, PartialEq)]
 enum LinkStage {
-    /// Each request that was read is answered.
+    /// Each opened request has a reply, or at least its first piece.
     Answered,
-    /// A request was read, and is not answered yet.
+    /// A request was opened for the link to read, and nothing of its reply was written yet.
     Asked,
     /// All bytes are read as they come, and the connection ends with the link.
     Open,
@@ -41,8 +42,8 @@ enum LinkStage {
     Failed,
 }
 
-/// A connection while a link serves it. The link reads whole requests only, except at the stage `Open`. It ends once
-/// they are answered and no further one was received in time.
+/// A connection while a link serves it. The link reads whole requests only, except at the stage `Open`. It ends once it
+/// has replied to these and no further one was received in time.
 pub(crate) struct ServedConnection<S: Read + Write + OpenStream + Drop, C: Clock + Wait + Drop> {
     connection: Connection<S>,
     shared: Arc<SharedWithLinks<S>>,
@@ -54,7 +55,7 @@ pub(crate) struct ServedConnection<S: Read + Write + OpenStream + Drop, C: Clock
 }
 
 impl<S: Read + Write + OpenStream + Drop, C: Clock + Wait + Drop> ServedConnection<S, C> {
-    /// Begins to serve a connection. `alone`: the door has no other one.
+    /// Begins to serve a connection. `alone`: the door has no other connection.
     pub fn new(
         alloc: Global,
         clock: C,
@@ -78,7 +79,7 @@ impl<S: Read + Write + OpenStream + Drop, C: Clock + Wait + Drop> ServedConnecti
     /// Reads once. Returns 0 once the link has ended.
     ///
     /// # Errors
-    /// The error of the stream, or no byte came in time.
+    /// The error of the stream; `TimedOut` if no byte came in time; out of memory.
     pub fn read(&mut self, room: &mut [u8]) -> io::Result<usize>
         ensures fits { IfOk result (λ n. n ≤ length room.new) }
         ensures consumes { ConsumesReturned (coming self.old.connection.received (S.remaining self.old.connection.stream))
@@ -91,10 +92,11 @@ impl<S: Read + Write + OpenStream + Drop, C: Clock + Wait + Drop> ServedConnecti
         read
     }
 
-    /// Writes once.
+    /// Writes once. Returns how many bytes of the piece were sent or kept to be sent later.
     ///
     /// # Errors
-    /// The error of the stream, or the stream took no byte in time.
+    /// The error of the stream. `TimedOut` if the stream took no byte in time, or if it took none at once, the piece
+    /// can't be kept, and other links wait for a worker.
     pub fn write(&mut self, piece: &[u8]) -> io::Result<usize>
         ensures fits { IfOk result (λ n. n ≤ length piece.now) }
         ensures appends { WriteAppends (outgoing (S.contents self.old.connection.stream) self.old.connection.to_send)
@@ -107,7 +109,7 @@ impl<S: Read + Write + OpenStream + Drop, C: Clock + Wait + Drop> ServedConnecti
         written
     }
 
-    /// Whether there are more links than workers, so that some link waits for a worker.
+    /// Whether some link waits for a worker: there are more links than workers. Always true if there are no workers.
     fn is_crowded(&self) -> bool {
         let links = Arc::strong_count(&self.shared).saturating_sub(1);
         links > self.shared.workers as usize
@@ -138,8 +140,8 @@ impl<S: Read + Write + OpenStream + Drop, C: Clock + Wait + Drop> ServedConnecti
         Ok(self.connection.received.read_opened(room))
     }
 
-    /// Whether there is something to read. If all requests are answered, this opens the next one, so that its bytes may
-    /// be read.
+    /// Whether the link may read. At the stage `Answered` this opens the next request, or, if the door has accepted all
+    /// its connections, changes the stage to `Open`.
     ///
     /// # Errors
     /// The error of the stream, or out of memory.
@@ -168,8 +170,9 @@ impl<S: Read + Write + OpenStream + Drop, C: Clock + Wait + Drop> ServedConnecti
         }
     }
 
-    /// Opens the next request once it is whole, and returns whether there is one. Opened bytes are those that the link
-    /// may read.
+    /// Opens the next request once it is whole, or all received bytes if they are refused, so that the link may read
+    /// them. Returns false if neither came in time, if bytes of a reply are still to be sent, or if the client has shut
+    /// down its side.
     ///
     /// # Errors
     /// The error of the stream, or out of memory.
@@ -198,7 +201,7 @@ impl<S: Read + Write + OpenStream + Drop, C: Clock + Wait + Drop> ServedConnecti
         Ok(false)
     }
 
-    /// Reads from the stream once, and appends the bytes to the received ones. It waits for bytes only if the link may
+    /// Reads from the stream once, and appends the bytes to the received ones. Waits for bytes only if the link may
     /// wait. Returns false if no byte came in time.
     ///
     /// # Errors
@@ -213,7 +216,8 @@ impl<S: Read + Write + OpenStream + Drop, C: Clock + Wait + Drop> ServedConnecti
         self.connection.receive(&mut room)
     }
 
-    /// Sets the stream to blocking (with a short timeout) if the link may wait, and otherwise to non-blocking.
+    /// Sets the stream to blocking (with a short timeout) if the link may wait, which counts as one wait, and otherwise
+    /// to non-blocking.
     fn set_pace(&mut self) -> io::Result<()>
         ensures received { self.new.connection.received ≡ self.old.connection.received }
         ensures stream { self.new.connection.stream ≡ self.old.connection.stream }
@@ -229,7 +233,7 @@ impl<S: Read + Write + OpenStream + Drop, C: Clock + Wait + Drop> ServedConnecti
     /// Reads once: the received bytes, or if there are none, from the stream.
     ///
     /// # Errors
-    /// The error of the stream, or no byte came in time.
+    /// The error of the stream, or `TimedOut` if no byte came in time.
     #[tactic(auto, using(crate::proofs::Moving::link_takes, crate::proofs::Moving::none_read, crate::proofs::Moving::read_behind))]
     fn read_open(&mut self, room: &mut [u8]) -> io::Result<usize>
         ensures fits { IfOk result (λ n. n ≤ length room.new) }
@@ -243,7 +247,11 @@ impl<S: Read + Write + OpenStream + Drop, C: Clock + Wait + Drop> ServedConnecti
         self.read_stream(room)
     }
 
-    /// Reads from the stream once. While other links wait for a worker, the link ends if nothing comes for a while.
+    /// Waits until bytes come from the stream, and reads once. Returns 0 if the client has shut down its side, or if
+    /// nothing came for a while and other links wait for a worker.
+    ///
+    /// # Errors
+    /// The error of the stream, or `TimedOut` if no byte came in time.
     #[tactic(auto, using(crate::proofs::Moving::read_rules))]
     fn read_stream(&mut self, room: &mut [u8]) -> io::Result<usize>
         ensures fits { IfOk result (λ n. n ≤ length room.new) }
@@ -266,12 +274,14 @@ impl<S: Read + Write + OpenStream + Drop, C: Clock + Wait + Drop> ServedConnecti
         Err(io::Error::from(ErrorKind::TimedOut))
     }
 
-    /// Whether the link has waited long enough for bytes that do not come: other links wait for a worker, and it has waited a while.
+    /// Whether the link has waited long enough for bytes that do not come: it has waited a while, and other links wait
+    /// for a worker. Once the door has accepted all its connections, a link is never cut short like this.
     fn has_waited_long_enough(&self, waits: u64) -> bool {
         waits >= FEW_WAITS && !self.shared.has_accepted_all() && self.is_crowded()
     }
 
-    /// Sends a piece, or keeps it to be sent later.
+    /// Sends a piece. What the stream doesn't take at once is kept if it can be, and sent later. Returns how many bytes
+    /// were sent or kept.
     #[tactic(auto, using(crate::proofs::Moving::rest_after))]
     fn write_some(&mut self, piece: &[u8]) -> io::Result<usize>
         ensures fits { IfOk result (λ n. n ≤ length piece.now) }
@@ -286,8 +296,8 @@ impl<S: Read + Write + OpenStream + Drop, C: Clock + Wait + Drop> ServedConnecti
         self.hold(piece, sent)
     }
 
-    /// Notes that a piece of an answer is sent. If it is the first one and has a status of 500 or more, the answer is
-    /// counted.
+    /// Notes that a piece of a reply is sent. If it is the first piece of a reply with a status of 500 or more, the
+    /// reply is counted.
     fn note_answer(&mut self, piece: &[u8])
         ensures { self.new.connection ≡ self.old.connection }
     {
@@ -313,8 +323,12 @@ impl<S: Read + Write + OpenStream + Drop, C: Clock + Wait + Drop> ServedConnecti
         }
     }
 
-    /// Keeps the rest of a piece, whose first `sent` bytes are sent, to be sent later. If the rest can't be kept and `sent` is 0, waits for
-    /// the stream to take some bytes of the piece.
+    /// Keeps the rest of a piece, whose first `sent` bytes are sent, to be sent later. If the rest can't be kept and
+    /// `sent` is 0, waits for the stream to take some bytes of the piece. Returns how many bytes of the piece were sent
+    /// or kept.
+    ///
+    /// # Errors
+    /// As `write_waiting`.
     #[tactic(auto, using(crate::proofs::Moving::none_written, crate::proofs::Moving::held_behind))]
     fn hold(&mut self, piece: &[u8], sent: usize) -> io::Result<usize>
         requires { sent ≤ length piece.now }
@@ -337,7 +351,8 @@ impl<S: Read + Write + OpenStream + Drop, C: Clock + Wait + Drop> ServedConnecti
         self.write_waiting(piece)
     }
 
-    /// Keeps bytes to be sent later, and returns whether there was room for them.
+    /// Keeps bytes to be sent later. Returns false, and keeps none, if the door has accepted all its connections, if
+    /// `may_hold` forbids it, or if an allocation fails.
     fn holds(&mut self, rest: &[u8]) -> bool
         ensures stream { self.new.connection.stream ≡ self.old.connection.stream }
         ensures held { result ≡ true → unsent self.new.connection.to_send ≡ unsent self.old.connection.to_send ++ rest.now }
@@ -353,11 +368,11 @@ impl<S: Read + Write + OpenStream + Drop, C: Clock + Wait + Drop> ServedConnecti
         false
     }
 
-    /// Sends the bytes that are kept, then the piece. Returns how many bytes of the piece are sent.
+    /// Sends the bytes that are kept, then at least one byte of the piece. Returns how many of the piece were sent.
     ///
     /// # Errors
     /// The error of the stream; `TimedOut` if the stream took no byte of the piece in time, or if other links wait for
-    /// a worker.
+    /// a worker (unless the door has accepted all its connections).
     #[tactic(auto, using(crate::proofs::Moving::write_rules))]
     fn write_waiting(&mut self, piece: &[u8]) -> io::Result<usize>
         ensures fits { IfOk result (λ n. n ≤ length piece.now) }
@@ -377,7 +392,8 @@ impl<S: Read + Write + OpenStream + Drop, C: Clock + Wait + Drop> ServedConnecti
         Err(io::Error::from(ErrorKind::TimedOut))
     }
 
-    /// Makes one write: of the bytes that are kept, or of the piece if there are none. Returns how many bytes of the piece were taken.
+    /// Makes one write: of the bytes that are kept, or of the piece if none are kept. Returns how many bytes of the
+    /// piece were taken.
     #[tactic(auto, using(crate::proofs::Moving::kept_appends, crate::proofs::Moving::write_first))]
     fn write_behind(&mut self, piece: &[u8]) -> io::Result<usize>
         ensures fits { IfOk result (λ n. n ≤ length piece.now) }
@@ -393,7 +409,7 @@ impl<S: Read + Write + OpenStream + Drop, C: Clock + Wait + Drop> ServedConnecti
     }
 }
 
-/// The stage at which a link of a connection begins.
+/// The stage of a link that begins with this connection, or has just opened a request of it.
 fn stage_of<S: Read + Write + OpenStream + Drop>(connection: &Connection<S>) -> LinkStage {
     if connection.refused {
         LinkStage::Open
@@ -404,7 +420,7 @@ fn stage_of<S: Read + Write + OpenStream + Drop>(connection: &Connection<S>) -> 
     }
 }
 
-/// Whether an answer with these first bytes has a status of 500 or more.
+/// Whether a reply with these first bytes has a status of 500 or more.
 fn is_server_error(answer: &[u8]) -> bool {
     answer.starts_with(b"HTTP/1.1 5")
 }
@@ -414,7 +430,8 @@ fn is_server_error(answer: &[u8]) -> bool {
 enum Fate {
     /// The connection goes back to the door, which waits for its next request.
     KeptOpen,
-    /// The connection goes back to the door, which closes it once all bytes are sent and the client has shut down its side.
+    /// The connection goes back to the door, which closes it once all bytes are sent and the client has shut down its
+    /// side.
     ClosedLater,
     /// The connection is closed at once.
     ClosedNow,

@@ -9,7 +9,7 @@ use std::net::OpenStream;
 use std::sync::atomic::{AtomicBool, AtomicU64, Ordering};
 use std::sync::{Mutex, Wait};
 
-/// The most bytes of answers that are kept to be sent later.
+/// Once this many bytes of replies are kept to be sent later, for all connections together, no more are kept.
 const MOST_UNSENT: u64 = 268_435_456;
 
 /// What a door shares with its links. The door and each link own it, so it has one owner more than there are links.
@@ -23,13 +23,14 @@ pub(crate) struct SharedWithLinks<S: Read + Write + OpenStream + Drop> {
     /// Whether the door has accepted its maximum number of connections. Each link then serves its connection to the
     /// end, and does not return it in between.
     has_accepted_all: AtomicBool,
-    /// Whether answers may be kept to be sent later.
+    /// Whether replies may be kept to be sent later.
     keeps_answers: AtomicBool,
-    /// How many bytes of answers are kept to be sent later.
+    /// How many bytes of replies are kept to be sent later.
     unsent: AtomicU64,
-    /// How many answers had a status of 500 or more since the last call of `take_server_errors`.
+    /// How many replies had a status of 500 or more since the last call of `take_server_errors`.
     server_errors: AtomicU64,
-    /// How many connections were closed because an allocation failed when a link returned them, since the last call of `take_lost`.
+    /// How many connections were closed because an allocation failed when a link returned them, since the last call of
+    /// `take_lost`.
     lost: AtomicU64,
     /// How many worker threads serve links at the same time, or 0 if the thread that accepts serves them.
     pub workers: u32,
@@ -37,6 +38,9 @@ pub(crate) struct SharedWithLinks<S: Read + Write + OpenStream + Drop> {
 
 impl<S: Read + Write + OpenStream + Drop> SharedWithLinks<S> {
     /// Creates the shared state of a door without connections.
+    ///
+    /// # Errors
+    /// Out of memory.
     pub fn new(alloc: Global, waker: Waker, workers: u32) -> Result<Self, AllocError> {
         Ok(SharedWithLinks {
             returned: Mutex::new(VecDeque::with_capacity(alloc, 256)?),
@@ -51,7 +55,8 @@ impl<S: Read + Write + OpenStream + Drop> SharedWithLinks<S> {
         })
     }
 
-    /// Returns a connection to the door. If an allocation fails, the connection is closed and counted.
+    /// Returns a connection to the door, and wakes the door if it waits for events. If an allocation fails, the
+    /// connection is closed instead, and counted.
     pub fn return_connection<R: Wait>(&self, rt: &R, connection: Connection<S>) {
         let unsent = connection.to_send.len();
         let mut returned = self.returned.lock(rt);
@@ -71,7 +76,7 @@ impl<S: Read + Write + OpenStream + Drop> SharedWithLinks<S> {
         self.returned.lock(rt).pop_front()
     }
 
-    /// Notes whether the door waits. If so, a link that returns a connection wakes it.
+    /// Notes whether the door waits for events. If so, the next link that returns a connection wakes the door.
     pub fn note_sleep(&self, sleeps: bool) {
         self.sleeps.store(sleeps, Ordering::SeqCst);
     }
@@ -86,13 +91,14 @@ impl<S: Read + Write + OpenStream + Drop> SharedWithLinks<S> {
         self.has_accepted_all.load(Ordering::SeqCst)
     }
 
-    /// Notes that no more answers may be kept to be sent later, because the door can no longer wait until a client is
+    /// Notes that no more replies may be kept to be sent later, because the door can no longer wait until a client is
     /// ready to receive.
     pub fn keep_no_answers(&self) {
         self.keeps_answers.store(false, Ordering::SeqCst);
     }
 
-    /// Whether `count` more bytes of answers may be kept. If so, they are counted as kept.
+    /// Whether `count` more bytes of replies may be kept: `keep_no_answers` was not called, and fewer than
+    /// `MOST_UNSENT` bytes are kept now. If so, counts them as kept.
     pub fn may_hold(&self, count: usize) -> bool {
         if !self.keeps_answers.load(Ordering::SeqCst) {
             return false;
@@ -112,12 +118,12 @@ impl<S: Read + Write + OpenStream + Drop> SharedWithLinks<S> {
         }
     }
 
-    /// Counts an answer with a status of 500 or more.
+    /// Counts a reply with a status of 500 or more.
     pub fn count_server_error(&self) {
         self.server_errors.fetch_add(1, Ordering::SeqCst);
     }
 
-    /// How many answers had a status of 500 or more since the last call of this function.
+    /// How many replies had a status of 500 or more since the last call of this function.
     pub fn take_server_errors(&self) -> u64 {
         self.server_errors.swap(0, Ordering::SeqCst)
     }

@@ -14,7 +14,7 @@ use std::fmt::Display;
 /// (`POST /edge/validate`), and two for each of at most eight tokens.
 const MOST_KINDS: usize = 32;
 
-/// The logged status of a reply without a status.
+/// The logged status if no reply with a status came.
 const NO_ANSWER: u16 = 1;
 
 /// The logged status of a feed that came with status 200 but was not taken, that is, this program did not accept it:
@@ -40,7 +40,8 @@ fn digits_of(first: u8, second: u8, third: u8) -> Option<u16>
     Some(hundreds * 100 + tens * 10 + u16::from(third - b'0'))
 }
 
-/// The status of a reply that begins with these bytes (RFC 9112, section 4). `None` if they have no status.
+/// The status of a reply that begins with these bytes (RFC 9112, section 4). `None` if there are fewer than 12 bytes,
+/// if they don't begin with `HTTP/1.`, or if the status isn't three digits.
 fn status_of(reply: &[u8]) -> Option<u16>
     ensures { result ≡ status_of reply.now }
 {
@@ -50,7 +51,7 @@ fn status_of(reply: &[u8]) -> Option<u16>
     digits_of(reply[9], reply[10], reply[11])
 }
 
-/// The class of a status: 200 to 299 and 304 all mean that all is well.
+/// The class of a status: 200 to 299 and 304 all mean that all is well. Any other status is its own class.
 fn class_of(status: u16) -> u16
     ensures { result ≡ class_of status }
 {
@@ -61,7 +62,7 @@ fn class_of(status: u16) -> u16
     }
 }
 
-/// The status of a reply, as it is logged.
+/// The status of a reply, as it is logged. It can also be `NO_ANSWER` or `NOT_TAKEN`.
 #[derive(Clone, Copy)]
 pub(crate) struct LoggedStatus {
     status: u16,
@@ -90,7 +91,8 @@ impl Display for LoggedStatus {
 struct Known {
     key: u64,
     logged: Logged,
-    /// Whether its last reply was a feed with status 200: the next request shows whether it was taken.
+    /// Whether the last reply to this kind of request was a feed with status 200. The next request shows whether that
+    /// feed was taken.
     fed: bool,
 }
 
@@ -105,7 +107,7 @@ enum ExchangeStage {
     Answered,
 }
 
-/// What was requested of a peer on its connection, and how it last replied to each kind of request.
+/// What was requested on a peer's connection, and how the server last replied to each kind of request.
 #[derive(Clone, Copy)]
 pub(crate) struct StatusLog {
     stage: ExchangeStage,
@@ -114,7 +116,7 @@ pub(crate) struct StatusLog {
 }
 
 impl StatusLog {
-    /// The log of a peer to which no request was sent yet.
+    /// The log of a peer that has sent no request yet.
     pub fn new() -> Self
         ensures stage { result.stage ≡ Fresh }
         ensures known { result.known ≡ replicate 32 nothing_known }
@@ -138,9 +140,9 @@ impl StatusLog {
         self.stage = ExchangeStage::Fresh;
     }
 
-    /// Notes a write. The first write on a connection has the request's first line, its token and its tag. If the last
-    /// reply to this kind of request was a feed, a tag in the request shows that the feed was taken. Returns the status
-    /// to log for that feed, if it has changed.
+    /// Notes a write. Only the first write on a connection counts: it has the request's first line, its token and its
+    /// tag. If the last reply to this kind of request was a feed, a tag in the request shows that the feed was taken,
+    /// and no tag shows that it was not. Returns the status to log for that feed, if its class has changed.
     pub fn note_written(&mut self, piece: &[u8]) -> Option<LoggedStatus>
         ensures { NotesWritten self.old piece.now result self.new }
     {
@@ -152,8 +154,8 @@ impl StatusLog {
         note_tag(&mut self.known, self.kind.key, self.kind.has_tag)
     }
 
-    /// Notes a read, with no bytes if it failed. The first read after a request has the status. Returns the status if
-    /// its class has changed.
+    /// Notes a read, with no bytes if it failed. Only the first read after a request counts: it has the status of the
+    /// reply. Returns the status to log, if its class has changed.
     pub fn note_read(&mut self, bytes: &[u8]) -> Option<LoggedStatus>
         ensures { NotesRead self.old bytes.now result self.new }
     {
@@ -190,8 +192,8 @@ fn place_of(known: &[Known; MOST_KINDS], key: u64) -> Option<usize>
         .position(|entry| entry.key == key || entry.key == 0)
 }
 
-/// Notes the class of a reply to a kind of request, and returns whether it is to be logged. Kinds for which there is no
-/// entry are not logged.
+/// Notes the class `now` of a reply to a kind of request, and returns whether it is to be logged. `fed`: the reply is a
+/// feed. Kinds for which there is no entry are not logged.
 fn is_news(known: &mut [Known; MOST_KINDS], key: u64, now: u16, fed: bool) -> bool
     ensures noted { known.new ≡ after_reply key now fed known.old }
     ensures news { result ≡ is_news key now fed known.old }
@@ -208,7 +210,7 @@ fn is_news(known: &mut [Known; MOST_KINDS], key: u64, now: u16, fed: bool) -> bo
     }
 }
 
-/// Whether a reply with this status is a feed, which may be taken.
+/// Whether a reply is a feed: a feed was requested (`is_feed`), and the status is 200.
 fn is_fed(is_feed: bool, status: u16) -> bool
     ensures { result ≡ (is_feed && nat_eq status 200) }
 {
@@ -216,15 +218,15 @@ fn is_fed(is_feed: bool, status: u16) -> bool
 }
 
 /// The class to note for a reply with the class `now`. If the last feed was not taken and this reply is a feed (`fed`),
-/// the class stays: only the next request shows whether this feed is taken.
+/// the class stays: only the next request shows whether this feed was taken.
 fn next_class(last: u16, now: u16, fed: bool) -> u16
     ensures { result ≡ next_class last now fed }
 {
     if fed && last == NOT_TAKEN { last } else { now }
 }
 
-/// Notes a request with or without a tag: if the last reply was a feed, the tag shows that it was taken. Returns the
-/// status to be logged, if it is news.
+/// Notes a request with or without a tag. If the last reply to its kind was a feed, a tag shows that the feed was
+/// taken, and no tag that it was not. Returns the status to log for the feed, if its class has changed.
 fn note_tag(known: &mut [Known; MOST_KINDS], key: u64, has_tag: bool) -> Option<LoggedStatus>
     ensures noted { known.new ≡ after_request key has_tag known.old }
     ensures news { result ≡ logged_request key has_tag known.old }

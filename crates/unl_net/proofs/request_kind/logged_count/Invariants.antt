@@ -1,4 +1,4 @@
--- The bytes that were passed may be logged, and it is known whether there is a space among them.
+-- The bytes so far may be logged, and it is known whether there is a space among them.
 use Rattle.std.proofs.Common.{◌≡◌, nat_lt, take, true}
 use Rattle.unl_net.specs.LoggedText.{may_be_logged, spaces_in}
 use Rattle.unl_net.proofs.request_kind.logged_count.Given as goal
