@@ -9,8 +9,8 @@ use std::thread;
 use std::time::{Clock, Duration};
 use unl_base::Pace;
 
-/// A pace that sleeps before each turn. The first sleep has a given length, and each further one is twice as long as the
-/// one before, but never longer than the interval. The turns never end. Without an interval there is no turn at all.
+/// A pace that sleeps before each turn. The first sleep has a given length, and each further one is twice as long as
+/// the one before, but none is longer than the interval. The turns never end. Without an interval there is no turn.
 #[derive(Drop)]
 pub struct StartPace<C: Clock + Drop> {
     clock: C,
@@ -19,8 +19,8 @@ pub struct StartPace<C: Clock + Drop> {
 }
 
 impl<C: Clock + Drop> StartPace<C> {
-    /// Creates a pace that first sleeps for `first`, or for the interval if that is shorter. Without an interval it has no
-    /// turn.
+    /// Creates a pace that first sleeps for `first`, or for the interval if that is shorter. Without an interval it has
+    /// no turn.
     pub fn new(clock: C, first: Duration, interval: Option<Duration>) -> Self
         ensures { ⟦<StartPace<C> as Pace>⟧.turns result ≡ turns_of interval }
     {
