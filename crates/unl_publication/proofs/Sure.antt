@@ -105,7 +105,7 @@ module _ {S I : Type 0} (installed : S → I → S) (allows : S → I → Type 0
   pub KnowsAllowed-shared : (v w : Knowledge S I) → w ≡ shared_knowledge v → ∥ KnowsAllowed installed allows v ∥₁ → ∥ KnowsAllowed installed allows w ∥₁
   KnowsAllowed-shared v w same h = KnowsAllowed-same (shared_knowledge v) w same h
 
-  -- A writer that knows only the opening value knows no install.
+  -- A writer that has just learned the opening value knows no install, so all installs that it knows are allowed.
   pub KnowsAllowed-opened : (table : ℕ) (value : S) (v w : Knowledge S I) → v ≡ knows_nothing → Opens table value v w → ∥ KnowsAllowed installed allows w ∥₁
   KnowsAllowed-opened table value v w none opens =
       KnowsAllowed-same (knows_opening table value) w
@@ -137,7 +137,7 @@ module _ {S I : Type 0} (installed : S → I → S) (allows : S → I → Type 0
       → MayPublish installed allows v what → allows value what
   MayPublish-allows v value what there is may = allowed_by v.opening v.installs value what there is may
 
--- The `Ok` case of a result.
+-- A result that is not an error satisfies the statement of its `Ok` case.
 pub when_ok : {A B : Type 0} (r : Result A B) (P : Type 0) (Q : B → Type 0) → is_err r ≡ false → MatchResult r (λ _. P) Q → P
 when_ok (Ok a) P Q fine h = h
 when_ok (Err b) P Q fine h = absurd cc

@@ -9,11 +9,11 @@ use Rattle.unl_publication.specs.Rule.{KnowsAllowed, Rise, StartsWith}
 use Rattle.unl_publication.specs.Meaning.{known, before_of, front_seen, value_at}
 
 module _ {S I : Type 0} where
-  -- Both know of the same writer and the same opening value.
+  -- Both know the same table, which identifies the publication, or both know none. Likewise for the opening value.
   abbrev pub SameOrigin : Knowledge S I → Knowledge S I → Type 0
   SameOrigin v w = (v.table ≡ w.table) × (v.opening ≡ w.opening)
 
-  -- The value is the opening value after all known installs, and its front is their number.
+  -- The front of the value is the number of known installs. If the opening value is known, the value is the opening value after them.
   pub record Shows (installed : S → I → S) (front_of : S → ℕ) (value : S) (v : Knowledge S I) : Type 0 where
     pub value_is : (o : S) → v.opening ≡ Some o → value ≡ fold installed o v.installs
     pub front_is : front_of value ≡ length v.installs
@@ -22,8 +22,8 @@ module _ {S I : Type 0} where
   abbrev pub AreFronts : Knowledge S I → Type 0
   AreFronts v = Rise 0 v.fronts (length v.installs)
 
-  -- If the reader continues from a learned list, that list is longer than the list at its last look. Otherwise the field `before` of its
-  -- knowledge has at most as many values as the reader knows installs.
+  -- If the reader continues from a learned list, that list is longer than the list of its last look. Otherwise `before`, the known values
+  -- after 0, 1, 2, .. installs, has at most as many items as the list of installs.
   abbrev pub IsAhead : Option (Knowledge S I) → Knowledge S I → Type 0
   IsAhead (Some past) now = length past.installs < length now.installs
   IsAhead None now = length now.before ≤ length now.installs
@@ -44,7 +44,9 @@ module _ {S I : Type 0} where
     pub fronts : AreFronts v
     pub before : length v.before ≤ length v.installs
 
-  -- The reader took a list that starts with the one it had or continued from. The list's length is appended to the fronts.
+  -- The effect of a look. `past` and `now` are from before the look, `new` is the reader's knowledge afterwards. The reader took the
+  -- published list, which starts with the list of `now`. `before` keeps the values that the reader knew before it continued from a learned
+  -- list. The length of the new list is appended to the fronts.
   pub record Takes (installed : S → I → S) (past : Option (Knowledge S I)) (now new : Knowledge S I) : Type 0 where
     pub same : new ≡ record {
       table = now.table;
@@ -55,7 +57,8 @@ module _ {S I : Type 0} where
     }
     pub seen : StartsWith new.installs now.installs
 
-  -- The reader is unchanged, or it took a list and ended the look.
+  -- The effect of a failed call of `enter`, which begins a look: the reader is unchanged, or it took a list, as `Takes` says, ended the
+  -- look, and has no `past` any more.
   abbrev pub StaysOrTakes :
       (S → I → S) → Option (Knowledge S I) → Knowledge S I → Option (Knowledge S I) → Knowledge S I → Type 0
   StaysOrTakes installed past now past_after after =

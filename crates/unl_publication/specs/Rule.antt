@@ -40,22 +40,23 @@ module _ {S I : Type 0} where
 
   -- ---- which installs may come next
 
-  -- The value before each install allows it.
+  -- Each install of the list is allowed by the value before it, the first one by the given value.
   abbrev pub AreAllowed : (S → I → S) → (S → I → Type 0) → S → List I → Type 0
   AreAllowed installed allows value [] = ⊤
   AreAllowed installed allows value (what ∷ more) = allows value what × AreAllowed installed allows (installed value what) more
 
-  -- The known installs are allowed, from the opening value on.
+  -- If the opening value is known, each known install is allowed by the value before it.
   abbrev pub KnowsAllowed : (S → I → S) → (S → I → Type 0) → Knowledge S I → Type 0
   KnowsAllowed installed allows v = IfSome v.opening (λ opening. AreAllowed installed allows opening v.installs)
 
-  -- The value after the known installs allows this one.
+  -- If the opening value is known, the value after the known installs allows this install.
   abbrev pub MayPublish : (S → I → S) → (S → I → Type 0) → Knowledge S I → I → Type 0
   MayPublish installed allows v what = (opening : S) → v.opening ≡ Some opening → allows (fold installed opening v.installs) what
 
   -- ---- the invariant
 
-  -- The knowledge agrees with the opening value and the list of installs.
+  -- The knowledge agrees with the opening value and the list of installs: it has this opening value or none, and a prefix of the list. The
+  -- fronts of its looks never fall, and none is above the length of that prefix.
   pub record Fits (opening : S) (list : List I) (v : Knowledge S I) : Type 0 where
     pub opened : (o : S) → v.opening ≡ Some o → o ≡ opening
     pub seen : StartsWith list v.installs
@@ -76,7 +77,7 @@ module _ {S I : Type 0} where
 
   -- ---- what the steps make known
 
-  -- The writer learns its table and the opening value.
+  -- The writer's table and the opening value become known to the writer.
   abbrev pub Opens : ℕ → S → Knowledge S I → Knowledge S I → Type 0
   Opens table value v w = w ≡ record {
     table = Some table;
@@ -92,8 +93,9 @@ module _ {S I : Type 0} where
     pub allowed : KnowsAllowed installed allows w
 
   -- A reader looks at the value. `v` is its knowledge before the look, `w` its knowledge afterwards. The installs of `w` start with
-  -- those of `v`. Each is allowed by the value before it. `value` is the opening value after the installs of `w`. The front of `value`
-  -- is their number, which is appended to `fronts`.
+  -- those of `v`. Each is allowed by the value before it. `w` has the values `before`, and the fronts `fronts` with the number of its
+  -- installs appended. This number is the front of `value`. If the opening value is known, `value` is the opening value after the installs
+  -- of `w`.
   pub record Enters (installed : S → I → S) (front_of : S → ℕ) (allows : S → I → Type 0) (before : List (Option S)) (fronts : List ℕ)
       (value : S) (v w : Knowledge S I) : Type 0 where
     pub same : w ≡ record {

@@ -18,7 +18,7 @@ module _ {T I P S : Type 0} {c : counted.Ghosts T I S} {a : absorb.Ghosts T I S}
   abbrev pub written : Writer T I P S c a → Knowledge S I
   written writer = view writer.sides.desk.place
 
-  -- A publication of the writer failed after its install was logged, so every later one fails.
+  -- A publication of the writer failed after its install was appended to the log of `left_right`, so every later one fails.
   abbrev pub is_closed : Writer T I P S c a → Bool
   is_closed writer = writer.refused
 
@@ -26,7 +26,7 @@ module _ {T I P S : Type 0} {c : counted.Ghosts T I S} {a : absorb.Ghosts T I S}
   abbrev pub seen : Reader T I P S c a → Knowledge S I
   seen reader = known (option_map (λ s. view s.value.place) reader.past) (view reader.seat.place)
 
-  -- What a reader knows now, whether seen or learned. The list that it takes at its next look starts with the installs in this.
+  -- What a reader knows now, whether seen or learned. The list that it takes at its next look starts with these installs.
   abbrev pub next : Reader T I P S c a → Knowledge S I
   next reader = view reader.seat.place
 
@@ -56,7 +56,7 @@ module _ {T I P S : Type 0} {c : counted.Ghosts T I S} {a : absorb.Ghosts T I S}
   abbrev pub reported_front : Told T I P S c a → ℕ
   reported_front told = told.front
 
-  -- The list of installs in a report of the writer. A report has none if there was no room for it.
+  -- The opening value and the list of installs in a report of the writer, or `None` if there was no room for the list.
   abbrev pub reported_list : Told T I P S c a → Option (Knowledge S I)
   reported_list told = option_map (λ seat. view seat.place) told.seat
 
@@ -65,6 +65,6 @@ module _ {W T I P S : Type 0} {c : counted.Ghosts T I S} {a : absorb.Ghosts T I 
   abbrev pub published : Publisher W T I P S c a → Knowledge S I
   published publisher = unwrap_or (option_map written publisher.writer) knows_nothing
 
-  -- A publication failed after its install was logged, so every later one fails.
+  -- As `is_closed`, for a publisher.
   abbrev pub stays_closed : Publisher W T I P S c a → Bool
   stays_closed publisher = unwrap_or (option_map is_closed publisher.writer) true

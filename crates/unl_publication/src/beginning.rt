@@ -10,13 +10,14 @@ use crate::writer::{Writer, fresh_seat};
 use std::alloc::{AllocError, Global};
 use std::sync::Wait;
 
-/// Creates a writer over two copies with the same state, and `readers` readers that know only the opening value. There
-/// is room for `spare_readers` more readers. Each `Told` (a report of the writer for one reader) that has the list of
-/// published installs takes the room of one spare reader until a reader learns it or it is dropped.
+/// Creates a writer, and `readers` readers (1 to 16) that know only the opening value. `first` and `second` are two
+/// copies of that value, whose front is 0. There is room for `spare_readers` more readers (at most 16). Each `Told` (a
+/// report of the writer for one reader) that has the list of published installs takes the room of one spare reader,
+/// until a reader learns the report or the report is dropped.
 ///
 /// # Errors
 ///
-/// Fails if it runs out of memory or a reader can't be created.
+/// Fails if it runs out of memory, or if `left_right` fails to create a reader (it gives no cause).
 pub fn begin<T: Counted<I> + Drop, I: Drop, P: Rules<T, I>, W: Wait>(
     rt: &W,
     alloc: Global,

@@ -9,11 +9,12 @@ pub struct Knowledge<S, I> {
     pub table: Option<u64>,
     /// The value that was published first, if known.
     pub opening: Option<S>,
-    /// The installs, in order, of the list that was seen last or that the reader continues from.
+    /// The known installs, in order. For a writer, all that it published. For a reader, the list that it saw last or
+    /// learned since.
     pub installs: LinkedList<I>,
-    /// The values that the reader knew after 0, 1, 2, .. installs before it continued from a learned list. For these
-    /// numbers of installs they replace the values computed from `installs`. Empty if it never continued from
-    /// a learned list.
+    /// The values after 0, 1, 2, .. installs, as the reader knew them before it continued from a learned list. They are
+    /// set by the first look after that, and later looks keep them; until then empty. For these numbers of installs
+    /// they replace the values computed from `installs`.
     pub before: LinkedList<Option<S>>,
     /// The number of installs that a reader saw at each of its looks, oldest first.
     pub fronts: LinkedList<u64>,

@@ -1,4 +1,4 @@
-//! A writer that is used through `&mut self`, where `Writer` is passed by value.
+//! A wrapper of a `Writer` that publishes through `&mut self`. A `Writer` itself publishes by value.
 ghost use Rattle.std.specs.Prelude.{◌≡◌, true, false, [], ◌∷◌, length, fold, Some, is_some};
 ghost use Rattle.std.specs.Prelude.{IfSome, IsErr, MatchResult, OnOk};
 ghost use Rattle.unl_publication.specs.Meaning.{front_seen};
@@ -11,8 +11,8 @@ use std::alloc::AllocError;
 use std::mem::replace;
 use std::sync::Wait;
 
-/// A writer that is used through `&mut self`. It keeps `rt`, with which it waits for readers. It isn't `Drop`: close it
-/// with `end`.
+/// A writer that publishes through `&mut self`. It keeps the runtime `rt`, with which it waits for readers. It isn't
+/// `Drop`: close it with `end`.
 pub struct Publisher<'a, W: Wait, T: Counted<I> + Drop, I: Drop, P: Rules<T, I>> {
     rt: &'a W,
     /// The writer. It is `None` only while a call passes it by value.
@@ -74,8 +74,8 @@ impl<'a, W: Wait, T: Counted<I> + Drop, I: Drop, P: Rules<T, I>> Publisher<'a, W
     }
 
     /// Returns what one reader can learn now: the list of published installs and its length. Returns only the length if
-    /// `left_right` can't create another reader, because all its places for readers are in use. The contract of
-    /// `left_right` doesn't state this cause.
+    /// `left_right` can't create another reader, as when all its places for readers are in use. The contract of
+    /// `left_right` gives no cause.
     pub fn tell(&mut self) -> Told<T, I, P>
         ensures same { published self.new ≡ published self.old }
         ensures closed { stays_closed self.new ≡ stays_closed self.old }

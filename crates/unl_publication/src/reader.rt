@@ -24,7 +24,7 @@ pub struct Reader<T: Counted<I> + Drop, I: Drop, P: Rules<T, I>> {
     pub(crate) past: Option<Snapshot<Seat<T, Knowledge<T::State, I>, P>>>,
     /// The number of installs that the reader knows.
     pub(crate) front: u64,
-    /// The largest number of installs that the reader has learned of. It shows no value with fewer installs.
+    /// The largest number of installs in the reports that the reader has learned. A look shows no value with fewer.
     pub(crate) least: u64,
     ghost counted: { front ≡ length (view seat.place).installs },
     ghost between_looks: { ∥ IsBetweenLooks (option_map (λ s. view s.value.place) past) (view seat.place) ∥₁ },
@@ -37,7 +37,7 @@ pub struct Guard<T: Counted<I> + Drop, I: Drop, P: Rules<T, I>> {
     pub(crate) reading: Reading<T, Knowledge<T::State, I>, P>,
     /// The number of installs that the value has absorbed.
     pub(crate) front: u64,
-    /// The largest number of installs that the reader had learned of when it looked.
+    /// The largest number of installs in the reports that the reader had learned when it looked.
     pub(crate) least: u64,
     ghost counted: { front ≡ length (view reading.place).installs },
     ghost shows: { ∥ Shows T.applied T.front_of (T.state reading.part.value) (view reading.place) ∥₁ },

@@ -1,13 +1,14 @@
-//! The invariant that each access to the shared value keeps, and what each access makes known.
+//! The invariant that each access to the published value keeps, and what each access makes known to the writer or the
+//! reader.
 use crate::knowledge::Knowledge;
 use crate::value::Counted;
 use atomic_table::{Join, Split};
 use crossbeam_utils::rule::{Outcome, Protocol};
 use std::marker::{Brand, PhantomData};
 
-/// A protocol whose invariant is equivalent to `IsKept`, such as `Ruled`. `IsKept` says that there is one opening value
-/// and one list of installs, the value before each install allows it, and the writer and each reader know a prefix of
-/// that list.
+/// A protocol (the invariant of a shared value and of what each accessor knows) whose invariant is equivalent to
+/// `IsKept`, such as `Ruled`. `IsKept` says that there is one opening value and one list of installs, the value before
+/// each install allows it, and the writer and each reader know a prefix of that list.
 pub trait Rules<T: Counted<I>, I: Drop>: Protocol<T, Knowledge<T::State, I>> {
     ghost use Rattle.std.specs.Prelude.{◌≡◌, List};
     ghost use Rattle.unl_publication.specs.declared.knowledge.Knowledge.{Knowledge};
@@ -120,7 +121,8 @@ impl<S> Past<S> for Brand {
     ghost fronts = { [] };
 }
 
-/// What a look makes known to a reader: a list that starts with the one it had, and the value after that list.
+/// What a look makes known to a reader: a list that starts with the reader's old list, and the value after the new
+/// list.
 pub(crate) struct Enter<K> {
     of: PhantomData<K>,
 }

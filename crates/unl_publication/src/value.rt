@@ -3,10 +3,10 @@ ghost use Rattle.std.specs.Prelude.{◌≡◌, ℕ, ◌+◌};
 
 use left_right::Absorb;
 
-/// A value that counts the installs it has absorbed. This count is its front. When the front is 2^64 - 1, its
-/// `absorb_first` has to fail. `left_right` keeps two copies of the value.
+/// A value that counts the installs it has absorbed. This count is its front. `left_right` keeps two copies of the
+/// value, and applies an install to the first of them by `absorb_first`, which has to fail when the front is 2^64 - 1.
 pub trait Counted<I: Drop>: Absorb<I> {
-    /// The front of a copy of the value, given the state of the copy in contracts.
+    /// The front of a copy of the value, computed from its state in contracts.
     ghost front_of: { Self.State → ℕ };
 
     /// Whether an install may be applied to a value. By default every install may.

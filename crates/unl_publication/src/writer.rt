@@ -21,7 +21,8 @@ use std::sync::Wait;
 pub struct Writer<T: Counted<I> + Drop, I: Drop, P: Rules<T, I>> {
     /// The `left_right` writer, with both copies of the value.
     pub(crate) sides: Sides<T, I, Knowledge<T::State, I>, P>,
-    /// Whether a publication failed after its install was logged. Every later publication then fails.
+    /// Whether a publication failed after its install was appended to the log of `left_right`. Every later publication
+    /// then fails.
     pub(crate) refused: bool,
     ghost shows: { ∥ Shows T.applied T.front_of (T.state sides.desk.shown.value) (view sides.desk.place) ∥₁ },
     ghost clear: { refused ≡ false → drop sides.behind sides.log.items ≡ [] },
@@ -58,8 +59,8 @@ impl<T: Counted<I> + Drop, I: Drop, P: Rules<T, I>> Told<T, I, P> {
 impl<T: Counted<I> + Drop, I: Drop, P: Rules<T, I>> Writer<T, I, P> {
     ghost use Rattle.unl_publication.specs.Seen.{is_closed, reported_front, reported_list, written};
 
-    /// Creates a writer that knows the opening value, over two copies with the same state, with room for `readers`
-    /// readers.
+    /// Creates a writer over two copies of the opening value, whose front is 0, with room for `readers` readers. The
+    /// writer knows the opening value.
     ///
     /// # Errors
     ///
@@ -100,9 +101,9 @@ impl<T: Counted<I> + Drop, I: Drop, P: Rules<T, I>> Writer<T, I, P> {
         self.sides.published()
     }
 
-    /// Returns what one reader can learn now: the list of published installs and its length. The list is absent if
-    /// `left_right` can't create another reader. That happens if all places for readers are in use, but the contract of
-    /// `left_right` doesn't state the cause.
+    /// Returns what one reader can learn now: the list of published installs and its length. Returns only the length if
+    /// `left_right` can't create another reader, as when all its places for readers are in use. The contract of
+    /// `left_right` gives no cause.
     pub fn tell(&mut self) -> Told<T, I, P>
         ensures same { written self.new ≡ written self.old }
         ensures closed { is_closed self.new ≡ is_closed self.old }
@@ -125,7 +126,8 @@ impl<T: Counted<I> + Drop, I: Drop, P: Rules<T, I>> Writer<T, I, P> {
     /// # Errors
     ///
     /// Fails if it runs out of memory, or if one of the two copies of the value can't absorb the install. Nothing is
-    /// published then. If this happens after the install was logged, every later call fails too.
+    /// published then. If the install was already appended to the log of `left_right` when the call failed, every later
+    /// call fails too.
     pub fn publish<W: Wait>(self, rt: &W, what: I) -> (Writer<T, I, P>, Result<u64, AllocError>)
         requires { MayPublish T.applied T.allows (written self) what }
         ensures published { MatchResult result.1
@@ -185,8 +187,8 @@ pub(crate) fn fresh_seat<T: Counted<I> + Drop, I: Drop, P: Rules<T, I>>(
     Ok(seat)
 }
 
-/// Makes a publication without installs. It puts the name of the `atomic_table` and the opening value into the writer's
-/// ghost record.
+/// Makes a publication without installs. It only lets the writer know, in contracts, the opening value and the name
+/// `K.table` of its `atomic_table`, which identifies the publication.
 fn open_table<T: Counted<I> + Drop, I: Drop, P: Rules<T, I>, K: AtTable, W: Wait>(
     rt: &W,
     sides: Sides<T, I, Knowledge<T::State, I>, P>,
@@ -205,7 +207,7 @@ fn open_table<T: Counted<I> + Drop, I: Drop, P: Rules<T, I>, K: AtTable, W: Wait
     sides.publish_as::<Open<K>, W>(rt)
 }
 
-/// Publishes the logged installs, which are `K.given`.
+/// Publishes the installs that wait in the log of `left_right`. Contracts name them `K.given`.
 fn publish_given<T: Counted<I> + Drop, I: Drop, P: Rules<T, I>, K: Given<I>, W: Wait>(
     rt: &W,
     sides: Sides<T, I, Knowledge<T::State, I>, P>,
