@@ -13,7 +13,7 @@ pub record Written (before connected written other_parts other_parts_after : Pee
   pub same : other_parts_after ≡ other_parts
   pub ended : written ≡ record other_parts_after { sent = sent_after }
 
--- What was sent first is nothing; what was sent before is kept; and one reply is used up.
+-- Nothing is sent on the new connection at first; the texts sent before are kept; and one reply is used up.
 sent_first : {before connected written other_parts other_parts_after : PeerState} {sent sent_after : Option (List ℕ)}
     → Written before connected written other_parts other_parts_after sent sent_after → sent ≡ option_map (λ _. []) before.sent
 sent_first w = sym (ap (λ (s : PeerState). s.sent) w.begun) ∙ ap (λ (s : PeerState). s.sent) w.connects
@@ -67,7 +67,7 @@ asked_whole before connected written after other_parts other_parts_after reads r
   sends = read_history r ∙ added before connected written other_parts other_parts_after sent sent_after request w sends;
 }
 
--- A request that was sent in full was sent at most once.
+-- A request that was sent in full was sent at most once: all of it is one of its prefixes.
 pub at_most_once : {request : List ℕ} {replies history replies_after history_after : Option (List (List ℕ))}
     → Asks request replies history replies_after history_after → AsksAtMostOnce request replies history replies_after history_after
 at_most_once {request} asks = inr (record {

@@ -28,7 +28,7 @@ use Rattle.unl_tokens.specs.declared.token.Token.{Token}
 
 -- ---- counting connections
 
--- a count that rose between two moments rose over any longer time
+-- a fault count that rose within a period rose within any longer one
 rose_within : (before first last after : ℕ) → before ≤ first → last ≤ after → Rose first last → Rose before after
 rose_within before first last after begins ends rose = omega (arith, begins, ends, rose)
 
@@ -44,7 +44,7 @@ taken_both None middle last some more first then = then ∙ ap (option_map (λ l
 taken_both (Some list) middle last some more first then =
     then ∙ ap (option_map (λ list. drop more list)) first ∙ ap Some (drop-drop more some list)
 
--- no connection was made
+-- if no connection was made, at least zero were
 pub connects_nothing : (replies : Option (List (List ℕ))) (faults : ℕ) → Connects 0 replies faults replies faults
 connects_nothing replies faults = record { later = omega arith; made = λ none. (0, omega arith, none_taken replies) }
 
@@ -64,7 +64,7 @@ pub none_or_one : {request : List ℕ} {replies replies_after history history_af
 none_or_one {replies = replies} (inl (same, silent)) later = record { later = later; made = λ none. (0, omega arith, same ∙ none_taken replies) }
 none_or_one (inr part) later = record { later = later; made = λ none. (1, omega arith, part.one_reply) }
 
--- as above, if there may be nothing to send
+-- as above, for a report that may be absent
 pub report_at_most_once : (found : Option (Data × ℕ)) (host token : List ℕ) (replies replies_after history history_after : Option (List (List ℕ)))
     (faults faults_after : ℕ) → AsksBulkAtMostOnce found host token replies history replies_after history_after → faults ≤ faults_after
     → Connects 0 replies faults replies_after faults_after
@@ -72,7 +72,7 @@ report_at_most_once None host token replies replies_after history history_after 
     record { later = later; made = λ none. (0, omega arith, asks.0 ∙ none_taken replies) }
 report_at_most_once (Some (report, count)) host token replies replies_after history history_after faults faults_after asks later = none_or_one asks later
 
--- some connections, and then others
+-- some connections, and then others: the lower bounds add up
 pub connects_both : {least more : ℕ} {replies middle last : Option (List (List ℕ))} {faults faults_middle faults_last : ℕ}
     → Connects least replies faults middle faults_middle → Connects more middle faults_middle last faults_last
     → Connects (least + more) replies faults last faults_last
@@ -94,7 +94,7 @@ connects_fewer few connects = record {
 
 -- ---- what is installed after a refresh
 
--- nothing was installed
+-- what is installed is unchanged
 pub same_at_most_once : (before after : Installed) → after ≡ before → PublishesAtMostOnce before after
 same_at_most_once before after same = subst (PublishesAtMostOnce before) (sym same) (record { places = refl; front = omega arith })
 
@@ -125,7 +125,7 @@ reading_at_most_once slot delta tag before (Ok got) = by_status (got.status == 3
     by_status false true = batch_at_most_once slot got.tag before (batch_in delta (number_held (place_of before slot)) got.body)
     by_status false false = same_at_most_once before before refl
 
--- the effect of refreshing a slot
+-- the effect of refreshing a slot is at most one publication
 pub slot_at_most_once : {slot : ℕ} {ask : Ask} {before : Installed} {coming : Option (List ℕ)} {after : Refreshed}
     → Refreshes slot ask before coming after → PublishesAtMostOnce before after.installed
 slot_at_most_once {slot} {ask} {before} refreshes =
@@ -144,7 +144,7 @@ installs_at_most_once (Ok book) before Held after installs = absurd installs
 installs_at_most_once (Ok book) before (Refused status) after installs = absurd installs
 installs_at_most_once (Ok book) before (BadAnswer bad) after installs = absurd installs
 
--- the effect of refreshing the book
+-- the effect of refreshing the book is at most one publication
 pub book_at_most_once : {texts : List (List ℕ)} {before : Installed} {coming : Option (List ℕ)} {outcome : Outcome} {after : Installed}
     → RefreshesTokens texts before coming outcome after → PublishesAtMostOnce before after
 book_at_most_once {texts} {before} {coming} {outcome} {after} refreshes =
@@ -152,20 +152,20 @@ book_at_most_once {texts} {before} {coming} {outcome} {after} refreshes =
 
 -- ---- from the result of a refresh
 
--- the effect of refreshing the book, whatever the result is
+-- as above, whatever the result is
 pub book_result_at_most_once : (texts : List (List ℕ)) {before after : Installed} (coming : Option (List ℕ)) (reported : Result Outcome RefreshFault)
     → IfOk reported (λ outcome. RefreshesTokens texts before coming outcome after) → OnErr reported (after ≡ before) → PublishesAtMostOnce before after
 book_result_at_most_once texts coming (Ok outcome) takes fault = book_at_most_once takes
 book_result_at_most_once texts {before} {after} coming (Err e) takes fault = same_at_most_once before after fault
 
--- the effect of refreshing a slot, whatever the result is
+-- as `slot_at_most_once`, whatever the result is
 pub slot_result_at_most_once : (slot : ℕ) (ask : Ask) {before after : Installed} (coming tag : Option (List ℕ)) (reported : Result Outcome RefreshFault)
     → IfOk reported (λ outcome. Refreshes slot ask before coming (record { outcome = outcome; installed = after; tag = tag }))
     → OnErr reported (after ≡ before) → PublishesAtMostOnce before after
 slot_result_at_most_once slot ask coming tag (Ok outcome) takes fault = slot_at_most_once takes
 slot_result_at_most_once slot ask {before} {after} coming tag (Err e) takes fault = same_at_most_once before after fault
 
--- unless out of memory, one connection was made
+-- unless memory ran out, one connection was made, or the peer failed
 pub asked_once : {A : Type 0} (request : List ℕ) (replies replies_after history history_after : Option (List (List ℕ))) {faults faults_after : ℕ}
     (reported : Result A RefreshFault) (result : Result Unit Memory) → OnOk result (reported ≢ Err out_of_memory) → OnOk reported (Asks request replies history replies_after history_after)
     → (reported ≡ Err peer_fault → Rose faults faults_after) → faults ≤ faults_after → OnOk result (Connects 1 replies faults replies_after faults_after)
@@ -174,7 +174,7 @@ asked_once request replies replies_after history history_after (Ok outcome) (Ok 
 asked_once request replies replies_after history history_after (Err peer_fault) (Ok _) some asks cause later = after_fault _ _ _ _ _ later (cause refl)
 asked_once request replies replies_after history history_after (Err out_of_memory) (Ok _) some asks cause later = absurd (some refl)
 
--- a fact holds in the `Ok` case too
+-- a fact that holds in any case holds if the result is `Ok`
 pub if_ok : {A E X : Type 0} (result : Result A E) → X → OnOk result X
 if_ok (Ok a) x = x
 if_ok (Err e) x = tt

@@ -20,7 +20,7 @@ use Rattle.unl_refresh.specs.declared.outcome.RefreshFault.{RefreshFault}
 use Rattle.unl_refresh.specs.Exchange.{IsParsedFrom}
 use Rattle.unl_refresh.specs.Refresh.{Brings, Refreshed, Refreshes, after_body, after_reading, after_verdict, batch_in, number_held}
 
--- `P` holds before, and after each batch that the bytes to come may bring.
+-- `P` holds of what is installed before, and after each batch that the bytes to come may bring.
 pub record Leaves (P : Installed → Type 0) (slot : ℕ) (before : Installed) (delta : Bool) (coming : Option (List ℕ)) : Type 0 where
   pub stays : P before
   pub takes : (got : Got) (batch : Batch) → IsParsedFrom coming (Ok got) → got.status ≡ 200
@@ -61,7 +61,7 @@ refreshed_leaves P (Ok outcome) slot ask before after tag coming takes fault lea
     (reading_leaves P slot before ask.delta ask.tag coming takes.reading leaves takes.is_read)
 refreshed_leaves P (Err e) slot ask before after tag coming takes fault leaves = subst P (sym fault) leaves.stays
 
--- The place represents the line, and its revision is not older than before.
+-- The place represents the line, and its revision (epoch and number) is not older than before.
 abbrev RepresentsNoOlder : List Era → Sees → Place → Place → Type 0
 RepresentsNoOlder line sees before after = PlaceRepresents line sees after × IsNotBelow before.version after.version
 

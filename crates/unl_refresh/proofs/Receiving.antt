@@ -1,4 +1,4 @@
--- The bytes held decide how the whole stream is parsed.
+-- The bytes held decide how all bytes of the stream are parsed.
 use Rattle.std.proofs.Common.{◌≡◌, ◌≤◌, ◌⊎◌, inl, inr, ℕ, List, [], ◌++◌, length, sym, ap, ◌∙◌, subst, append-nil, Option, Some, None, Result, Ok, Err, arith}
 use Rattle.std.proofs.lemmas.Option.{none-some, same_Some}
 use Rattle.std.specs.Option.{option_map}
@@ -15,7 +15,7 @@ use Rattle.unl_refresh.specs.declared.outcome.RefreshFault.{RefreshFault}
 pub record Taking (start : Option (List ℕ)) (held : List ℕ) (left : Option (List ℕ)) : Type 0 where
   pub took : Takes start held left
 
--- The whole is parsed as the bytes held, if these decide it.
+-- All bytes are parsed as the bytes held, if these decide it.
 reads_enough : (bytes held more : List ℕ) (reading : Result Got BadReply) → bytes ≡ held ++ more
     → (more ≡ []) ⊎ (16785409 ≤ length held) → IsReply held reading → IsReply bytes reading
 reads_enough bytes held more reading split (inl none) is =
@@ -30,7 +30,7 @@ IsRead-from_enough None held reading enough is = (held, is)
 IsRead-from_enough (Some bytes) held reading enough is =
     reads_enough bytes held enough.more reading enough.split enough.decides is
 
--- The next reply has only one reading.
+-- The next reply can be parsed in only one way.
 pub same_reading : (replies : Option (List (List ℕ))) (list : List (List ℕ)) (read reading : Result Got BadReply)
     → IsParsedFrom (option_map next_of replies) read → replies ≡ Some list → IsReply (next_of list) reading → read ≡ reading
 same_reading None list read reading is known one = absurd (none-some list known)
@@ -40,12 +40,12 @@ same_reading (Some other) list read reading is known one =
 
 -- ---- causes
 
--- the error of a result, if it has one
+-- the error of a result, or another fault if the result has none
 abbrev err_of : {T : Type 0} → RefreshFault → Result T RefreshFault → RefreshFault
 err_of other (Ok x) = other
 err_of other (Err fault) = fault
 
--- the causes of a call that forwarded the error of another, before which the count was the same
+-- `HasPeerCause` for a call that returns the error of an inner call, if the fault count before both was the same
 pub causes_on : {A B : Type 0} (fault : RefreshFault) (before mid after : ℕ) → mid ≡ before → HasPeerCause {T = A} (Err fault) mid after
     → HasPeerCause {T = B} (Err fault) before after
 causes_on {A} {B} fault before mid after same causes = record {

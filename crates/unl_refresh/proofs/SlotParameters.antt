@@ -41,7 +41,7 @@ fed_next host delta tokens environments place token environment before after slo
     split : slot_parameters host delta (drop place tokens) (drop place environments) ≡ wanted ∷ rest
     split = λ i. slot_parameters host delta (drop_more tokens place token inside i) (drop_more environments place environment within i)
 
--- after all tokens
+-- after all tokens, the pollers have the parameters of the tokens
 pub all_fed : (host : List ℕ) (delta : Bool) (tokens environments : List (List ℕ)) (place : ℕ) (made : List SlotParameters) → length tokens ≤ place
     → made ++ slot_parameters host delta (drop place tokens) (drop place environments) ≡ slot_parameters host delta tokens environments
     → made ≡ slot_parameters host delta tokens environments
@@ -70,7 +70,7 @@ untagged_next tokens place before after slot_poller inside none more made =
     split : no_tags (drop place tokens) ≡ None ∷ rest
     split = ap no_tags (drop_more tokens place [] inside)
 
--- after all tokens
+-- after all tokens, no poller has a tag
 pub all_untagged : (tokens : List (List ℕ)) (place : ℕ) (made : List (Option (List ℕ))) → length tokens ≤ place
     → made ++ no_tags (drop place tokens) ≡ no_tags tokens → made ≡ no_tags tokens
 all_untagged tokens place made few is =

@@ -203,7 +203,7 @@ slot_stopped slot parameters tag before after stops at =
 
 -- ---- all slots
 
--- one slot was polled, with the tags of the pollers: what `Polls` says of it for any tags
+-- what holds of one polled slot for any tags (`Polls`) holds for the tags of the pollers
 pub polled_here : (Polls : PollState → PollState → Type 0) (slot_pollers : List SlotPoller) (slot : ℕ) (other new : SlotPoller)
     (before after : Installed) (metrics metrics_last : Book) (peer peer_after : PeerView) → slot < length slot_pollers
     → ((tags : List (Option (List ℕ))) → tag_at tags slot ≡ tag_of (get_or slot_pollers slot other)
@@ -252,7 +252,7 @@ stops_next slot_pollers initial slot other start now next inside same before one
     before last (subst (λ (fs : List SlotParameters). StopsFrom slot fs now last) (sym (split_at slot_pollers initial slot other inside same))
     (inr (next, one, behind)))
 
--- memory ran out at this slot
+-- the slots before this one were polled, and memory ran out at this one
 pub stops_here : (slot_pollers initial : List SlotPoller) (slot : ℕ) (other : SlotPoller) (start now last : PollState) → slot < length slot_pollers
     → map parameters_of slot_pollers ≡ map parameters_of initial
     → ((last : PollState) → StopsFrom slot (drop slot (map parameters_of initial)) now last → StopsFrom 0 (map parameters_of initial) start last)
@@ -261,7 +261,7 @@ stops_here slot_pollers initial slot other start now last inside same before one
     before last (subst (λ (fs : List SlotParameters). StopsFrom slot fs now last) (sym (split_at slot_pollers initial slot other inside same))
     (inl one))
 
--- no slot is left
+-- no slot is left, so all were polled
 pub polled_all : (slot_pollers : List SlotPoller) (slot : ℕ) (start now : PollState) → length slot_pollers ≤ slot
     → ((last : PollState) → PollsSlotsFrom slot (drop slot (map parameters_of slot_pollers)) now last → PollsSlotsFrom 0 (map parameters_of slot_pollers) start last)
     → PollsSlotsFrom 0 (map parameters_of slot_pollers) start now
@@ -276,7 +276,7 @@ polled_all slot_pollers slot start now many before =
 
 -- ---- the turn
 
--- a poller by its parts
+-- the state of a poller, by its parts
 abbrev duty_of : List (List ℕ) → List ℕ → Book → List SlotPoller → Duty
 duty_of known upstream book slot_pollers = record {
   known = known;
@@ -308,7 +308,7 @@ turn_made result known upstream book lent items duty before peer middle after sa
     both (Ok u) polls = (middle, takes, polls)
     both (Err e) stops = inr (middle, takes, stops)
 
--- the same, with the pollers as the vector has them afterwards
+-- as above, with the pollers as the vector has them afterwards
 pub turn_left : (result : Result Unit Memory) (duty : Duty) (before installed : Installed) (peer peer_after : PeerView) (metrics : Book) (count : ℕ)
     (lent rest : List SlotPoller) → length lent ≡ count
     → Turns result duty before peer (poll_state installed (map tag_of lent) metrics peer_after)
@@ -324,7 +324,7 @@ pub many_left : (lent items left : List SlotPoller) → lent ≡ items → map p
 many_left lent items left same kept =
     sym (length-map left parameters_of) ∙ ap length kept ∙ length-map lent parameters_of ∙ ap length same
 
--- what the poller works with is the same
+-- only the tags and the metrics of the poller changed
 pub duty_kept : (known : List (List ℕ)) (upstream : List ℕ) (book metrics : Book) (duty : Duty) (count : ℕ) (lent items left rest : List SlotPoller)
     → lent ≡ items → map parameters_of left ≡ map parameters_of lent → length left ≡ count → duty_of known upstream book items ≡ duty
     → KeepsDuty duty (duty_of known upstream metrics (take count (left ++ rest)))

@@ -2,7 +2,8 @@
 use Rattle.std.specs.Prelude.{◌≡◌, ℕ, ◌≤◌, List, Option, option_map, drop}
 use Rattle.unl_base.specs.Faults.{Rose}
 
--- Unless the peer failed, at least `least` connections were made to it, each of which used up one of the replies to come.
+-- The peer's fault count did not fall. Unless it rose (the peer failed), at least `least` connections were made, and each used up one of
+-- `replies`, the replies to come. If these are not observable (`None`), nothing is said of the number.
 pub record Connects
     (least : ℕ) (replies : Option (List (List ℕ))) (faults : ℕ) (replies_after : Option (List (List ℕ))) (faults_after : ℕ) : Type 0 where
   pub later : faults ≤ faults_after

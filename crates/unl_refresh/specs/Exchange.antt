@@ -13,28 +13,29 @@ use Rattle.unl_refresh.specs.declared.outcome.RefreshFault.TheVariants.{PeerFaul
 
 -- ---- what is sent
 
--- The history of a peer has one text for each connection. It ends with one more text now: all that was sent on a new connection.
+-- The history of a peer is the list of the texts sent to it: one for the time before the first connection, and one for each connection. It
+-- ends with one more text now: `text`, which is all that was sent on a new connection.
 abbrev pub AddsText : Option (List (List ℕ)) → List ℕ → Option (List (List ℕ)) → Type 0
 AddsText history text history_after = history_after ≡ option_map (λ texts. texts ++ text ∷ []) history
 
--- The history ends with one more text now, a prefix of `text`.
+-- The history ends with one more text now, which is a prefix of `text`: all that was sent on a new connection.
 pub record AddsPrefix (history : Option (List (List ℕ))) (text : List ℕ) (history_after : Option (List (List ℕ))) : Type 0 where
   pub part : List ℕ
   pub after : List ℕ
   pub split : text ≡ part ++ after
   pub adds : AddsText history part history_after
 
--- One connection is made, it uses up one reply, and the whole request is sent on it, and nothing else.
+-- One connection is made. It uses up one reply, and exactly the request is sent on it.
 pub record Asks (request : List ℕ) (replies history replies_after history_after : Option (List (List ℕ))) : Type 0 where
   pub one_reply : replies_after ≡ option_map (λ list. drop 1 list) replies
   pub sends : AddsText history request history_after
 
--- One connection is made, it uses up one reply, and a prefix of the request is sent on it, and nothing else.
+-- One connection is made. It uses up one reply, and exactly a prefix of the request (perhaps all of it) is sent on it.
 pub record AsksPart (request : List ℕ) (replies history replies_after history_after : Option (List (List ℕ))) : Type 0 where
   pub one_reply : replies_after ≡ option_map (λ list. drop 1 list) replies
   pub sends : AddsPrefix history request history_after
 
--- Nothing is used up and nothing sent; or one connection is made, and the request or a prefix of it is sent on it.
+-- No reply is used up and nothing is sent; or one connection is made, which uses up one reply, and the request or a prefix of it is sent.
 abbrev pub AsksAtMostOnce : (request : List ℕ) (replies history replies_after history_after : Option (List (List ℕ))) → Type 0
 AsksAtMostOnce request replies history replies_after history_after =
     ((replies_after ≡ replies) × (history_after ≡ history)) ⊎ AsksPart request replies history replies_after history_after
@@ -54,27 +55,29 @@ abbrev pub ReadsPiece : Bool → List ℕ → Option (List ℕ) → List ℕ →
 ReadsPiece true held left held_after left_after = AddsPiece held left held_after left_after
 ReadsPiece false held left held_after left_after = (held_after ≡ held) × HasEnded left
 
--- The bytes held are all of the bytes, or a prefix that is long enough to decide how they are parsed: one byte more than the longest
--- reply, a head of 8192 bytes and a body of 16777216 bytes.
+-- `held` is all of `bytes`, or a prefix that is long enough to decide how `bytes` are parsed: at least 16785409 bytes, one more than the
+-- longest reply has (a head of 8192 bytes and a body of 16777216 bytes).
 pub record IsEnough (bytes held : List ℕ) : Type 0 where
   pub more : List ℕ
   pub split : bytes ≡ held ++ more
   pub decides : (more ≡ []) ⊎ (16785409 ≤ length held)
 
--- The bytes held are all of the bytes to come, or a prefix long enough to decide how they are parsed. If the bytes to come are not
--- observable, it says nothing.
+-- The bytes held are all of the bytes to come, or a prefix long enough to decide how these are parsed. Nothing is required if the bytes to
+-- come are not observable (`None`).
 abbrev pub HoldsEnough : Option (List ℕ) → List ℕ → Type 0
 HoldsEnough None held = ⊤
 HoldsEnough (Some bytes) held = IsEnough bytes held
 
--- The reply is parsed from the bytes to come; if these are not observable, from some bytes.
+-- `reading` is the result of parsing the bytes to come: a reply, or why they are not a valid one. If the bytes to come are not observable
+-- (`None`), it is the result of parsing some bytes.
 abbrev pub IsParsedFrom : Option (List ℕ) → Result Got BadReply → Type 0
 IsParsedFrom None reading = (bytes : List ℕ) × IsReply bytes reading
 IsParsedFrom (Some bytes) reading = IsReply bytes reading
 
 -- ---- the whole exchange
 
--- What contracts see of a peer: the replies to come, all that it was sent, a text for each connection, and its fault count.
+-- What contracts see of a peer: the bytes that each later connection gives to its reader (`replies`), the texts sent to the peer
+-- (`history`, as in `AddsText`), and its fault count. `None` if not observable.
 pub record PeerView : Type 0 where
   pub replies : Option (List (List ℕ))
   pub history : Option (List (List ℕ))
@@ -84,12 +87,12 @@ pub record PeerView : Type 0 where
 abbrev pub peer_view : PeerState → ℕ → PeerView
 peer_view peer faults = record { replies = peer.replies; history = history_of peer; faults = faults }
 
--- what a request received: a reply, as it was parsed, or nothing if the peer failed
+-- what a request received: the result of parsing the reply, or `None` if the peer failed
 abbrev pub ReplyOrFault : Type 0
 ReplyOrFault = Option (Result Got BadReply)
 
--- The request was sent on a new connection, and the next reply was read. Or the peer failed and its fault count rose, after at most
--- one connection.
+-- `Some`: the request was sent on a new connection, and the next reply was read. `None`: the peer failed and its fault count rose, after at
+-- most one connection, on which the request or a prefix of it was sent.
 abbrev pub Meets : ReplyOrFault → List ℕ → PeerView → PeerView → Type 0
 Meets (Some reading) request before after =
     IsParsedFrom (option_map next_of before.replies) reading × Asks request before.replies before.history after.replies after.history

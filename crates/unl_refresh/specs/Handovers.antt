@@ -1,10 +1,10 @@
--- The metrics books that passed through a queue. Each user of the queue holds a pass, which knows the books that its holder has put
--- and taken. A pass can be split into parts; all passes of a queue together have 2^64 parts.
+-- The metrics books that passed through a queue. Each user of the queue holds a pass, which knows the books that its holder has put and
+-- taken. A pass has a number of parts, which can be split among several passes; all passes of a queue together have 2^64.
 use Rattle.std.specs.Prelude.{◌≡◌, ℕ, ◌+◌, ◌-◌, List, [], ◌∷◌, ◌++◌}
 use Rattle.unl_metrics.specs.Book.{Book}
 use Rattle.unl_refresh.specs.declared.handover.Handover.{Handover}
 
--- the sum of the weights of the items
+-- the weight of a list: the sum of the weights of its items
 abbrev pub weigh : {X : Type 0} → (X → ℕ) → List X → ℕ
 weigh h [] = 0
 weigh h (x ∷ xs) = h x + weigh h xs

@@ -17,34 +17,36 @@ use Rattle.unl_refresh.specs.declared.outcome.MetricsOutcome.TheVariants.{Nothin
 use Rattle.unl_refresh.specs.declared.outcome.RefreshFault.{RefreshFault}
 use Rattle.unl_refresh.specs.Exchange.{Asks, AsksAtMostOnce, IsParsedFrom, PeerView}
 
--- the request that carries a report, for a host and with a token
+-- the bytes of the request that carries a report, with a host and a token
 unfoldable pub metrics_request : List ℕ → List ℕ → Data → List ℕ
 metrics_request host token report =
     request_text Post (codes "/api/client/metrics/bulk") host (Some token) None (compact_text report)
 
--- the outcome of a report of `count` keys, by the reply that was read: 200 and 202 accept it
+-- the outcome of a report of `count` keys, from the result of parsing the reply: the statuses 200 and 202 accept the report
 abbrev pub sent_by : ℕ → Result Got BadReply → MetricsOutcome
 sent_by count (Ok got) = if got.status == 200 || got.status == 202 then Sent count else Refused got.status
 sent_by count (Err bad) = BadAnswer bad
 
--- the outcome is determined by what there was to send and by the reply that was read
+-- The outcome is `Nothing` if there was no report to send; else the reply determines it. `reading` is the result of parsing the reply, and
+-- `count` the number of keys in the report.
 abbrev pub OutcomeFromReply : Option (Data × ℕ) → Result Got BadReply → MetricsOutcome → Type 0
 OutcomeFromReply None reading outcome = outcome ≡ Nothing
 OutcomeFromReply (Some (report, count)) reading outcome = outcome ≡ sent_by count reading
 
--- A reply is read from the bytes to come (from some bytes, if they are not observable).
+-- A reply is read from the bytes to come (from some bytes, if the bytes to come are not observable).
 -- It determines the outcome of a report of `count` keys.
 pub record SendsKeys (count : ℕ) (coming : Option (List ℕ)) (outcome : MetricsOutcome) : Type 0 where
   pub reading : Result Got BadReply
   pub is_read : IsParsedFrom coming reading
   pub gives : outcome ≡ sent_by count reading
 
--- The outcome is `Nothing` if there is nothing to send; else it is determined by a reply.
+-- The outcome is `Nothing` if there is no report to send; else a reply determines it, as in `SendsKeys`.
 abbrev pub SendsBulk : Option (Data × ℕ) → Option (List ℕ) → MetricsOutcome → Type 0
 SendsBulk None coming outcome = outcome ≡ Nothing
 SendsBulk (Some (report, count)) coming outcome = SendsKeys count coming outcome
 
--- One connection is made, it uses up one reply, and the report is sent. If there is no report, the peer is unchanged.
+-- One connection is made. It uses up one reply, and exactly the request with the report is sent on it. If there is no report, the peer is
+-- unchanged.
 abbrev pub AsksBulk :
     (found : Option (Data × ℕ)) (host token : List ℕ) (replies history replies_after history_after : Option (List (List ℕ))) → Type 0
 AsksBulk None host token replies history replies_after history_after = (replies_after ≡ replies) × (history_after ≡ history)
@@ -58,7 +60,7 @@ AsksBulkAtMostOnce None host token replies history replies_after history_after =
 AsksBulkAtMostOnce (Some (report, count)) host token replies history replies_after history_after =
     AsksAtMostOnce (metrics_request host token report) replies history replies_after history_after
 
--- the book after an outcome: the keys that were accepted are dropped
+-- the book after an outcome: without the first `count` keys of the environment if the server accepted these; otherwise unchanged
 abbrev pub book_after : List ℕ → MetricsOutcome → Book → Book
 book_after environment (Sent count) book = acknowledge environment count book
 book_after environment Nothing book = book
@@ -76,13 +78,14 @@ IsNamedMetrics (Refused status) = ⊤
 pub record SentMetrics
     (environment host token : List ℕ) (before : Book) (peer : PeerView) (result : Result MetricsOutcome RefreshFault)
     (after : Book) (peer_after : PeerView) : Type 0 where
-  -- If there is something to send, a reply is read, and it determines the outcome.
+  -- On success, if there is something to send, a reply was read, and it determines the outcome.
   pub sends : IfOk result (SendsBulk (bulk environment before) (option_map next_of peer.replies))
   -- No outcome reports an allocation failure.
   pub named : IfOk result IsNamedMetrics
-  -- The keys that the server accepted are dropped, and nothing else.
+  -- On success the keys that the server accepted are dropped, and nothing else. On an error the book is unchanged.
   pub book : IfOk result (λ outcome. after ≡ book_after environment outcome before)
   pub fault : OnErr result (after ≡ before)
-  -- If there is something to send, one connection is made, and one request is sent on it; on an error perhaps none, or a prefix.
+  -- If there is something to send: on success one connection is made, and the request is sent on it; on an error at most one connection is
+  -- made, and the request or a prefix of it is sent.
   pub asks : OnOk result (AsksBulk (bulk environment before) host token peer.replies peer.history peer_after.replies peer_after.history)
   pub once : AsksBulkAtMostOnce (bulk environment before) host token peer.replies peer.history peer_after.replies peer_after.history

@@ -36,11 +36,11 @@ pub record Receiving : Type 0 where
 abbrev pub new_sending : TableId → Sending
 new_sending queue = record { queue = queue; handed = [] }
 
--- nothing was taken
+-- the intake of a receiver that has taken nothing
 abbrev pub no_intake : Intake
 no_intake = record { taken = []; held = None }
 
--- a book was taken, and is held
+-- the intake after one more book was taken, which is now held (not merged yet)
 abbrev pub taking_in : Intake → Book → Intake
 taking_in intake book = record { taken = intake.taken ++ book ∷ []; held = Some book }
 
@@ -48,17 +48,17 @@ taking_in intake book = record { taken = intake.taken ++ book ∷ []; held = Som
 abbrev pub new_receiving : TableId → Receiving
 new_receiving queue = record { queue = queue; parts = 18446744073709551616; handed = []; intake = no_intake }
 
--- A book was handed over in full and is empty now; or it is unchanged, and nothing was handed over.
+-- The book was appended to those handed over, and an empty book is in its place; or it is unchanged, and nothing was handed over.
 abbrev pub HandsOver : List Book → Book → List Book → Book → Type 0
 HandsOver handed book handed_after book_after =
     ((book_after ≡ []) × (handed_after ≡ handed ++ book ∷ [])) ⊎ ((book_after ≡ book) × (handed_after ≡ handed))
 
--- a book, and the books that are added to it one after another
+-- the sum of a book and the books of a list, which are added one after another
 abbrev pub total : Book → List Book → Book
 total book books = fold sum_of book books
 
--- Some books were taken. They and the one that was held are merged into the metrics, one after another, except for the last if it is held
--- now.
+-- Some books were taken (`books`). The book that was held before, if any, and then these are merged into the metrics, one after another.
+-- The last of them is not merged if it is held now.
 pub record Merges (metrics : Book) (before : Intake) (metrics_after : Book) (after : Intake) : Type 0 where
   pub books : List Book
   pub taken : after.taken ≡ before.taken ++ books

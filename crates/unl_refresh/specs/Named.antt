@@ -9,7 +9,7 @@ use Rattle.unl_refresh.specs.declared.outcome.Bad.TheVariants.{Reply, Feed, NoNu
 use Rattle.unl_refresh.specs.declared.outcome.Outcome.{Outcome}
 use Rattle.unl_refresh.specs.declared.outcome.Outcome.TheVariants.{Published, Unchanged, Repeat, Old, Gap, Held, Refused, BadAnswer}
 
--- The cause is no allocation failure.
+-- The cause is not an allocation failure.
 abbrev pub IsNamed : Bad → Type 0
 IsNamed (Reply fault) = fault ≢ no_memory_for_reply
 IsNamed (Feed fault) = fault ≢ no_memory_for_document
@@ -17,7 +17,7 @@ IsNamed NoNumber = ⊤
 IsNamed (Batch fault) = fault ≢ no_memory_for_batch
 IsNamed (Book fault) = fault ≢ no_memory_for_book
 
--- The outcome reports no allocation failure.
+-- The outcome does not report an allocation failure.
 abbrev pub IsNamedOutcome : Outcome → Type 0
 IsNamedOutcome (Published front) = ⊤
 IsNamedOutcome Unchanged = ⊤

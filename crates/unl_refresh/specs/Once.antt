@@ -38,7 +38,7 @@ asked_by ask = refresh_request ask.delta ask.host ask.token ask.tag
 
 -- The effects of a refresh of a slot, whether or not the peer's replies are observable.
 pub record RefreshedOnce (slot : ℕ) (before : RefreshState) (result : Result Outcome RefreshFault) (after : RefreshState) : Type 0 where
-  -- A reply is read, and it determines the outcome, what is installed, and the tag.
+  -- On success a reply was read, and it determines the outcome, what is installed, and the tag.
   pub takes : IfOk result (λ outcome. Refreshes slot before.ask before.installed (option_map next_of before.peer.replies)
       (record { outcome = outcome; installed = after.installed; tag = after.ask.tag }))
   -- No outcome reports an allocation failure.
@@ -49,17 +49,18 @@ pub record RefreshedOnce (slot : ℕ) (before : RefreshState) (result : Result O
   -- Only the ask's tag changes, and the new tag is fit to be sent in the next request.
   pub same_ask : after.ask ≡ with_tag after.ask.tag before.ask
   pub next_tag : IsTrue (fits_if_any after.ask.tag)
-  -- One connection is made, and one request is sent on it; on an error perhaps none, or a prefix of it.
+  -- On success one connection is made, and the request is sent on it. On an error at most one connection is made, and the request or a
+  -- prefix of it is sent.
   pub asks : OnOk result (Asks (asked_by before.ask) before.peer.replies before.peer.history after.peer.replies after.peer.history)
   pub once : AsksAtMostOnce (asked_by before.ask) before.peer.replies before.peer.history after.peer.replies after.peer.history
 
 -- How a refresh of a slot uses the next of the peer's replies.
 pub record TakesNextReply (slot : ℕ) (before : RefreshState) (result : Result Outcome RefreshFault) (after : RefreshState) : Type 0 where
-  -- If the replies are observable, the reply that is read is the next one of them.
+  -- If the replies are observable, the next one of them is read; on success it determines the outcome, what is installed, and the tag.
   pub next_reply : (list : List (List ℕ)) (reading : Result Got BadReply) → before.peer.replies ≡ Some list → IsReply (next_of list) reading
       → IfOk result (λ outcome. record { outcome = outcome; installed = after.installed; tag = after.ask.tag }
       ≡ after_reading slot before.ask.delta before.ask.tag before.installed reading)
-  -- So a batch that applies is published, unless the peer failed or memory ran out.
+  -- So a batch that applies, in a reply with status 200, is published, unless the peer failed or memory ran out.
   pub complete : (list : List (List ℕ)) (got : Got) (batch : Batch) → before.peer.replies ≡ Some list → IsReply (next_of list) (Ok got)
       → got.status ≡ 200 → batch_in before.ask.delta (number_held (place_of before.installed slot)) got.body ≡ Ok batch
       → verdict_of (place_of before.installed slot) batch ≡ Apply
@@ -69,9 +70,10 @@ pub record TakesNextReply (slot : ℕ) (before : RefreshState) (result : Result 
   pub one_reply : ¬ (Rose before.peer.faults after.peer.faults) → result ≢ Err Memory
       → after.peer.replies ≡ option_map (λ list. drop 1 list) before.peer.replies
 
--- If the version of the slot, if any, represents a line of histories and the server sends batches from that line, the version after
--- the refresh represents the line too, through the same visible projects, and its epoch and number don't fall. This holds even if
--- batches are lost, duplicated or out of order.
+-- If the version of the slot, if any, represents a line (one history of changes for each of several rising epochs) and the server sends
+-- batches from that line, then the version after the refresh represents the line too, through the same visible projects. It is not older:
+-- its epoch is higher, or the epoch is the same and its number is not lower. This holds even if batches are lost, duplicated or out of
+-- order.
 abbrev pub Delivers : ℕ → RefreshState → RefreshState → Type 0
 Delivers slot before after =
     (line : List Era) (sees : Sees) → IsLine line → PlaceRepresents line sees (place_of before.installed slot)

@@ -26,11 +26,11 @@ use Rattle.unl_refresh.specs.Exchange.{IsParsedFrom}
 
 -- ---- the request
 
--- the path: of events, or of a whole feed
+-- the path of the request: of events if `delta`, otherwise of a whole feed
 abbrev pub target_path : Bool → List ℕ
 target_path delta = if delta then codes "/api/client/delta" else codes "/api/client/features"
 
--- the request for events or a feed, for a host, with a token and perhaps a tag
+-- the bytes of the request for events (if `delta`) or a feed, with a host, a token and perhaps a tag
 unfoldable pub refresh_request : Bool → List ℕ → List ℕ → Option (List ℕ) → List ℕ
 refresh_request delta host token tag = request_text Get (target_path delta) host (Some token) tag []
 
@@ -40,27 +40,28 @@ with_tag tag ask = record { host = ask.host; token = ask.token; delta = ask.delt
 
 -- ---- the body
 
--- the batch of a body of events
+-- the batch in a body of events, or why it can't be read
 abbrev pub delta_in : BatchReading → Result TheBatch Bad
 delta_in (Ok batch) = Ok batch
 delta_in (Err fault) = Err (Batch fault)
 
--- the batch of a feed: one hydration; an error if the feed has no number
+-- the batch of a feed, one hydration; an error if the body is no feed or the feed has no number
 abbrev pub feed_read : Reading TheFeed → Result TheBatch Bad
 feed_read (Ok feed) = ok_or (batch_of_feed feed) NoNumber
 feed_read (Err fault) = Err (Feed fault)
 
--- the batch in the body of a reply, for a client that has the events up to number `held`
+-- the batch in the body of a reply: of events if `delta`, otherwise of a feed; `held` is the number of the client's version: a batch of
+-- events that lacks `after`, the number that it continues, is read as if `after` were `held`
 abbrev pub batch_in : Bool → Option ℕ → List ℕ → Result TheBatch Bad
 batch_in delta held body = if delta then delta_in (batch_of_bytes held body) else feed_read (feed_in body)
 
--- the number of the version of a place, if it has one
+-- the number of a place's version; `None` if the place has no version
 abbrev pub number_held : Place → Option ℕ
 number_held place = option_map (λ version. version.number) place.version
 
 -- ---- the effect
 
--- the outcome, what is installed afterwards, and the tag of the next request
+-- the effect of a refresh: the outcome, what is installed afterwards, and the tag of the next request
 pub record Refreshed : Type 0 where
   pub outcome : Outcome
   pub installed : Installed
@@ -70,7 +71,7 @@ pub record Refreshed : Type 0 where
 abbrev pub unread : Bad → Installed → Refreshed
 unread bad before = record { outcome = BadAnswer bad; installed = before; tag = None }
 
--- the outcome of a verdict on a batch; the front after the batch is the number of changes published so far
+-- the outcome of a verdict on a batch; `front` is the number of publications after the verdict was carried out
 abbrev pub outcome_of : Verdict → ℕ → Outcome
 outcome_of verdict.Apply front = Published front
 outcome_of verdict.Repeat front = Repeat
@@ -78,7 +79,7 @@ outcome_of verdict.Old front = Old
 outcome_of verdict.Gap front = Gap
 outcome_of verdict.Held front = Held
 
--- the tag of the next request: none if the server must send everything
+-- the tag of the next request: the reply's tag if the slot now has the whole batch; otherwise none, so that the server sends everything
 abbrev pub tag_after : Verdict → Option (List ℕ) → Option (List ℕ)
 tag_after verdict.Apply tag = tag
 tag_after verdict.Repeat tag = tag
@@ -86,7 +87,7 @@ tag_after verdict.Old tag = None
 tag_after verdict.Gap tag = None
 tag_after verdict.Held tag = None
 
--- the effect of a batch that came with a tag, by its verdict
+-- the effect of a verdict on a batch; `tag` is the tag of the reply that the batch came in
 abbrev pub after_verdict : ℕ → TheBatch → Option (List ℕ) → Installed → Verdict → Refreshed
 after_verdict slot batch tag before v = record {
   outcome = outcome_of v (taken_by v slot batch before).front;
@@ -94,13 +95,13 @@ after_verdict slot batch tag before v = record {
   tag = tag_after v tag;
 }
 
--- the effect of the batch in a body, or of a body that can't be parsed
+-- the effect of the batch in a body, or of a body that can't be parsed; `tag` is the tag of the reply
 abbrev pub after_body : ℕ → Option (List ℕ) → Installed → Result TheBatch Bad → Refreshed
 after_body slot tag before (Ok batch) =
     after_verdict slot batch tag before (verdict_of (place_of before slot) batch)
 after_body slot tag before (Err bad) = unread bad before
 
--- the effect of a reply, by its status and body; `tag` is the tag of the request
+-- the effect of a reply, by its status and body; `tag` is the tag of the request, which is kept unless the status is 200
 abbrev pub after_reply : ℕ → Bool → Option (List ℕ) → Installed → Got → Refreshed
 after_reply slot delta tag before got =
     if got.status == 304 then record { outcome = Unchanged; installed = before; tag = tag }
@@ -120,8 +121,9 @@ pub record Refreshes (slot : ℕ) (ask : Ask) (before : Installed) (coming : Opt
 
 -- ---- where the batches come from
 
--- Each batch that is read for the place from the bytes to come (any bytes, if they are not observable) is one that a server can
--- send from the line, the list of the histories of all epochs, to a client for which the projects in `sees` are visible.
+-- Each batch that is read for the place from a reply with status 200 is one that a server can send from the line. The reply is parsed from
+-- the bytes to come (from any bytes, if these are not observable). A line has one history of changes for each of several rising epochs.
+-- `sees` are the projects that are visible to the client.
 abbrev pub Brings : List Era → Sees → Bool → Place → Option (List ℕ) → Type 0
 Brings line sees delta place coming =
     (got : Got) (batch : TheBatch) → IsParsedFrom coming (Ok got) → got.status ≡ 200

@@ -19,7 +19,7 @@ use Rattle.unl_refresh.specs.declared.outcome.RefreshFault.{RefreshFault}
 use Rattle.unl_refresh.specs.Exchange.{Asks, AsksAtMostOnce, IsParsedFrom, PeerView}
 use Rattle.unl_refresh.specs.Named.{IsNamedOutcome}
 
--- the bytes of the request: a POST to `/edge/validate` on this host, with the token texts in its body
+-- the bytes of the request: a POST to `/edge/validate` with this host, and with the token texts in its body
 unfoldable pub tokens_request : List (List ℕ) → List ℕ → List ℕ
 tokens_request texts host =
     request_text Post (codes "/edge/validate") host None None (compact_text (request_data texts))
@@ -29,17 +29,18 @@ abbrev pub kept_in : List (List ℕ) → BookReading → Result (List Token) Out
 kept_in texts (Ok book) = Ok (kept texts book)
 kept_in texts (Err fault) = Err (BadAnswer (Book fault))
 
--- the same, from the body of a reply
+-- as `kept_in`, for the book in the body of a reply
 abbrev pub book_read : List (List ℕ) → List ℕ → Result (List Token) Outcome
 book_read texts body = kept_in texts (book_in body)
 
--- the same, from a parsed reply; a reply with another status than 200 gives `Refused`, and one that could not be parsed `BadAnswer`
+-- as `book_read`, for a parsed reply: a status other than 200 gives `Refused`; bytes that are not a valid reply give `BadAnswer`
 abbrev pub book_in_reply : List (List ℕ) → Result Got BadReply → Result (List Token) Outcome
 book_in_reply texts (Ok got) = if not (got.status == 200) then Err (Refused got.status) else book_read texts got.body
 book_in_reply texts (Err bad) = Err (BadAnswer (Reply bad))
 
--- The effect on the installed data. A book is published (`Published`), or it is the current one already and nothing changes (`Repeat`).
--- If there is no book, the outcome reports why and nothing changes. The other outcomes don't occur with a book.
+-- The effect on what is installed. With a book: it is published, and `front` is the new number of publications (`Published`); or it is the
+-- current one already, and nothing changes (`Repeat`); other outcomes don't occur. Without a book: the outcome reports why, and nothing
+-- changes.
 abbrev pub Installs : Result (List Token) Outcome → Installed → Outcome → Installed → Type 0
 Installs (Err other) before outcome after = (outcome ≡ other) × (after ≡ before)
 Installs (Ok book) before (Published front) after = IsBookInstalled book before (Some front) after
@@ -63,12 +64,13 @@ pub record RefreshesTokens
 pub record RefreshedTokens
     (texts : List (List ℕ)) (host : List ℕ) (before : Installed) (peer : PeerView) (result : Result Outcome RefreshFault)
     (after : Installed) (peer_after : PeerView) : Type 0 where
-  -- A reply is read, and it determines the outcome and what is installed.
+  -- On success a reply was read, and it determines the outcome and what is installed.
   pub takes : IfOk result (λ outcome. RefreshesTokens texts before (option_map next_of peer.replies) outcome after)
   -- No outcome reports an allocation failure.
   pub named : IfOk result IsNamedOutcome
   -- On an error nothing is applied.
   pub fault : OnErr result (after ≡ before)
-  -- One connection is made, and one request is sent on it; on an error perhaps none, or a prefix of it.
+  -- On success one connection is made, and the request is sent on it. On an error at most one connection is made, and the request or a
+  -- prefix of it is sent.
   pub asks : OnOk result (Asks (tokens_request texts host) peer.replies peer.history peer_after.replies peer_after.history)
   pub once : AsksAtMostOnce (tokens_request texts host) peer.replies peer.history peer_after.replies peer_after.history

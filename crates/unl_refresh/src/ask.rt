@@ -10,14 +10,14 @@ use unl_http_api::{Bytes, Method, write_request};
 /// The parameters of a request to a server for events or a feed.
 #[derive(Debug, Drop)]
 pub struct Ask {
-    /// The server, as written in the header field `Host`.
+    /// The server's `HOST:PORT`, sent in the header field `Host`.
     pub host: Text,
-    /// The token that authorizes the request.
+    /// The token that authorizes the request, sent in the header field `Authorization`.
     pub token: Text,
-    /// Whether to request events; if false, a whole feed.
+    /// If true, the request is for events; if false, for a whole feed.
     pub delta: bool,
-    /// The entity tag of the last reply that was applied in full, sent as `If-None-Match`. With it the server can
-    /// answer 304 instead of sending the same content again.
+    /// The entity tag of the last reply that the slot has in full, sent as `If-None-Match`. With it the server can
+    /// answer 304, or send only newer events. `None`: the server sends everything.
     pub tag: Option<Bytes>,
 }
 
@@ -40,7 +40,7 @@ pub(crate) fn request_of(alloc: Global, ask: &Ask, tag: &Option<Bytes>) -> Resul
     )
 }
 
-/// Returns the path of the request, as in the Unleash client API.
+/// Returns the path in the Unleash client API: of events if `delta`, otherwise of a feed.
 fn target_path(delta: bool) -> &'static str
     ensures target { result.now ≡ target_path delta }
     ensures fits { IsTrue (fits_line result.now) }

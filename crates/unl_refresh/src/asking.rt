@@ -1,6 +1,6 @@
-//! The requests of one turn: they refresh the token book and the slots, and send metrics. A slot is the index of an
-//! environment. The front is the number of publications so far. A fault of the peer is not an error of these functions;
-//! their only error is out of memory.
+//! The requests of one turn: they refresh the token book and the slots, and send metrics. A `slot` is the index of an
+//! environment's slot on the board. The front is the number of publications so far. A fault of the peer is not an error
+//! of these functions; their only error is out of memory.
 ghost use Rattle.std.specs.Prelude.{◌≡◌, ◌≢◌, ◌<◌, ◌≤◌, ◌+◌, ◌-◌, ◌^◌, ℕ, Err, IsTrue, List, OnErr, OnOk, Option, length, map, set};
 ghost use Rattle.unl_delta.specs.Installing.{Installed};
 ghost use Rattle.unl_http_api.specs.RequestText.{fits_line};
@@ -19,8 +19,8 @@ use unl_delta::Installer;
 use unl_documents::{List, Memory, Text};
 use unl_metrics::MetricsBook;
 
-/// Makes one request that asks which of these tokens the server knows, and publishes the book of the known ones if it
-/// differs from the current book. Makes no request if the front is at its maximum, 2^64 - 1.
+/// Makes one request that asks which of the tokens with these texts the server knows, and publishes the book of the
+/// known ones if it differs from the current book. Makes no request if the front is at its maximum, 2^64 - 1.
 pub(crate) fn refresh_book<I: Installer, P: Peer>(
     alloc: Global,
     to: &mut I,
@@ -79,7 +79,7 @@ fn refresh_slot<I: Installer, P: Peer>(
     unless_memory(refreshed)
 }
 
-/// Makes one request that sends the metrics of a slot's environment, if there are any.
+/// Sends one report of the metrics of a slot's environment, if there are any.
 fn send_slot_metrics<P: Peer>(
     alloc: Global,
     book: &mut MetricsBook,
@@ -104,7 +104,7 @@ fn send_slot_metrics<P: Peer>(
     unless_memory(sent)
 }
 
-/// Makes one request for what is new in a slot, then sends the metrics of its environment.
+/// Calls `refresh_slot`, and unless that fails, `send_slot_metrics`.
 fn poll_slot<I: Installer, P: Peer>(
     alloc: Global,
     to: &mut I,
@@ -134,7 +134,7 @@ fn poll_slot<I: Installer, P: Peer>(
     }
 }
 
-/// Calls `poll_slot` for each slot that has a poller, in order.
+/// Calls `poll_slot` for each slot that has a poller, in order, up to the first error.
 pub(crate) fn poll_slots<I: Installer, P: Peer>(
     alloc: Global,
     to: &mut I,
@@ -167,7 +167,7 @@ pub(crate) fn poll_slots<I: Installer, P: Peer>(
     Ok(())
 }
 
-/// Returns an error only if out of memory. Drops every other result.
+/// Returns `Memory` if the exchange ran out of memory. Drops every other result, also a fault of the peer.
 fn unless_memory<T: Drop>(exchange: Result<T, RefreshFault>) -> Result<(), Memory>
     ensures ok { OnOk result (exchange ≢ Err RefreshFault.Memory) }
     ensures err { OnErr result (exchange ≡ Err RefreshFault.Memory) }

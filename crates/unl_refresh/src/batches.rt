@@ -1,4 +1,4 @@
-//! Reading the body of a server's reply as a batch.
+//! Reads the body of a server's reply as a batch.
 ghost use Rattle.std.specs.Prelude.{◌≡◌, IfOk, IfErr};
 ghost use Rattle.unl_delta.specs.Reading.{batch_of_bytes};
 ghost use Rattle.unl_delta.specs.Valid.{IsValidBatch};
@@ -12,8 +12,9 @@ use unl_delta::{BadBatch, Batch, of_feed, read_batch_bytes};
 use unl_documents::{BadDocument, Memory, read_feed};
 
 /// Reads a body as a batch. If `delta`, events were requested, and the body is a batch of events; otherwise it is a
-/// feed, which becomes one hydration. `held` is the number of the slot's version, if it has one. The inner error says
-/// why the body can't be read.
+/// feed, which becomes one hydration. `held` is the number of the slot's version, if the slot has one. A batch of
+/// events that lacks `after`, the number that it continues, is read as if `after` were `held`. The inner error says why
+/// the body can't be read.
 ///
 /// # Errors
 /// `Memory`: out of memory.
@@ -34,7 +35,7 @@ pub(crate) fn read_batch(
     }
 }
 
-/// Reads a body as a batch of events.
+/// Reads a body as a batch of events, as [`read_batch`] does with `delta`.
 fn read_delta(alloc: Global, held: Option<u64>, body: &[u8]) -> Result<Result<Batch, Bad>, Memory>
     ensures read { IfOk result (λ read. read ≡ delta_in (batch_of_bytes held body.now)) }
     ensures valid { IfOk result (λ read. IfOk read IsValidBatch) }

@@ -10,12 +10,12 @@ ghost use Rattle.unl_refresh.specs.contracts.metrics_sender.MetricsSender as Sen
 use crate::{MetricsPass, MetricsQueue};
 use unl_metrics::MetricsBook;
 
-/// Turns the bound `Sync` into a fact.
+/// States in its contract that `T` is `Sync`, as the bound says. Does nothing at run time.
 fn sync_of<T: Sync>()
     ensures { IsSync T.row }
 {}
 
-/// Turns the bound `Send` into a fact.
+/// States in its contract that `T` is `Send`, as the bound says. Does nothing at run time.
 fn send_of<T: Send>()
     ensures { IsSend T.row }
 {}

@@ -12,15 +12,18 @@ use unl_base::{Failed, Peer, write_all};
 use unl_documents::Memory;
 use unl_http_api::{BadReply, Got, ReplyReader};
 
-/// The size of one read, in bytes. Chosen by this project.
+/// The most bytes that one read takes. This number is chosen by this project.
 const PIECE: usize = 16_384;
 
 /// The number of received bytes after which no further byte changes how the reply is parsed: one more than a head of
 /// 8192 bytes and a body of 16 MiB, the limits of `unl_http_api`.
 const ENOUGH: usize = 16_785_409;
 
-/// Connects to a peer, sends a request and reads the reply. Reading stops at the end of the stream, or once the bytes
-/// received decide the result.
+/// Connects to a peer, sends a request and reads the reply, to the end of the stream or until at least [`ENOUGH`] bytes
+/// are read. The inner result is the parsed reply, or why the bytes are not a valid one.
+///
+/// # Errors
+/// `PeerFault` if the peer can't be connected to, written to or read; `Memory` if out of memory.
 pub(crate) fn exchange<P: Peer>(
     alloc: Global,
     peer: &mut P,
@@ -40,7 +43,7 @@ pub(crate) fn exchange<P: Peer>(
     read_reply(alloc, peer)
 }
 
-/// Reads a reply, to the end of the stream or until the bytes received decide the result.
+/// Reads a reply as [`exchange`] does, from a peer to which the request was sent.
 fn read_reply<P: Peer>(alloc: Global, peer: &mut P) -> Result<Result<Got, BadReply>, RefreshFault>
     ensures read { IfOk result (IsParsedFrom (P.Source.left peer.old)) }
     ensures tag { IfOk result (λ reading. IfOk reading (λ got. IsTrue (fits_if_any got.tag))) }
@@ -56,7 +59,7 @@ fn read_reply<P: Peer>(alloc: Global, peer: &mut P) -> Result<Result<Got, BadRep
     }
 }
 
-/// Parses the bytes received.
+/// Parses the bytes received. Out of memory is the outer error, any other fault the inner one.
 fn finished(alloc: Global, reader: ReplyReader) -> Result<Result<Got, BadReply>, Memory>
     ensures read { IfOk result (IsReply reader) }
     ensures tag { IfOk result (λ reading. IfOk reading (λ got. IsTrue (fits_if_any got.tag))) }
@@ -71,7 +74,7 @@ fn finished(alloc: Global, reader: ReplyReader) -> Result<Result<Got, BadReply>,
     }
 }
 
-/// Reads in pieces, to the end of the stream or until the bytes received decide the result.
+/// Reads in pieces into `reader`, to the end of the stream or until `reader` holds at least [`ENOUGH`] bytes.
 fn receive<P: Peer>(peer: &mut P, reader: &mut ReplyReader) -> Result<(), RefreshFault>
     requires { reader.old ≡ [] }
     ensures held { OnOk result (HoldsEnough (P.Source.left peer.old) reader.new) }
@@ -89,7 +92,8 @@ fn receive<P: Peer>(peer: &mut P, reader: &mut ReplyReader) -> Result<(), Refres
     Ok(())
 }
 
-/// Reads one piece. Returns false at the end of the stream.
+/// Reads one piece into `room` and appends it to the bytes that `reader` holds. Returns false at the end of the stream,
+/// otherwise true.
 fn read_piece<P: Peer>(
     peer: &mut P,
     reader: &mut ReplyReader,

@@ -1,5 +1,5 @@
-//! Ghost types for a queue of metrics books: what each thread knows of the books that passed through it, and the
-//! queue's rule.
+//! Types for the contracts of a queue of metrics books; no value of them is created. They describe which books each
+//! thread put into the queue and took from it, and the rule of the queue.
 
 use crossbeam_queue::protocol::{Join, Lesson, Outcome, Protocol, Split};
 use std::collections::LinkedList;
@@ -9,7 +9,7 @@ use unl_metrics::MetricsBook;
 /// thread to use a queue. This type is used only in contracts; no value of it is created.
 pub struct Handover {
     /// The number of parts of this pass. All passes of a queue together have 2^64, so a pass with all of them knows
-    /// every book that was put or taken. (In contracts it is a natural number, so it can be 2^64.)
+    /// every book that was put or taken. (In contracts this field is a natural number, so it can be 2^64.)
     pub parts: u64,
     /// The books that were put, in order.
     pub handed: LinkedList<MetricsBook>,
@@ -17,7 +17,7 @@ pub struct Handover {
     pub taken: LinkedList<MetricsBook>,
 }
 
-/// The rule of a queue: the books that were put are those that were taken and those that wait.
+/// The rule of a queue: the books that were put are those that were taken and those that wait, each equally often.
 pub struct ConservedBooks;
 
 impl Protocol<MetricsBook, Handover> for ConservedBooks {
@@ -57,7 +57,8 @@ impl Lesson<MetricsBook, Handover> for TakesBook {
     ghost fact = { λ v items. Unit {0} };
 }
 
-/// If a pass has all parts, the books that it knows as put are those that it knows as taken and those that wait.
+/// The fact about a pass with all parts: the books that it knows as put are those that it knows as taken and those that
+/// wait, each equally often.
 pub struct AllParts;
 
 impl Lesson<MetricsBook, Handover> for AllParts {
@@ -67,7 +68,7 @@ impl Lesson<MetricsBook, Handover> for AllParts {
     ghost fact = { λ v items. SameBooks v.handed (v.taken ++ items) };
 }
 
-/// Splits one part off a pass, and joins two passes.
+/// How the parts of a pass change: one part is split off as a new pass, or two passes become one.
 pub struct Parts;
 
 impl Split<Handover> for Parts {

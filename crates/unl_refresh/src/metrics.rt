@@ -24,12 +24,14 @@ use unl_documents::Memory;
 use unl_http_api::{BadReply, Bytes, Got, Method, write_request};
 use unl_metrics::MetricsBook;
 
-/// Sends one report of the metrics of an environment, with as many keys as one report has room for. If the server
+/// Sends one report of the metrics of an environment: its first keys, as many as fit into 1,048,576 bytes (none if the
+/// first alone is too long). A key is a feature in an application during an hour, in an environment. If the server
 /// accepts the report (status 200 or 202), these keys are dropped from the book; otherwise the book is unchanged. If
 /// the environment has no keys, the peer isn't contacted.
 ///
 /// # Errors
-/// `PeerFault` if the peer can't be connected to, written to or read; `Memory` if out of memory.
+/// `PeerFault` if the peer can't be connected to, written to or read; `Memory` if out of memory. The book is unchanged
+/// then.
 pub fn send_metrics<P: Peer>(
     alloc: Global,
     book: &mut MetricsBook,
@@ -47,7 +49,7 @@ pub fn send_metrics<P: Peer>(
         result book.new
         (peer_view (P.state peer.new) (P.Source.faults peer.new)) }
 
-    // If the peer's replies are observable, the reply is the next one of them.
+    // If the peer's replies are observable, the reply that determines the outcome is the next one of them.
     ensures next_reply { (list : List (List ℕ)) (reading : Result Got BadReply) → (P.state peer.old).replies ≡ Some list
         → IsReply (next_of list) reading
         → IfOk result (OutcomeFromReply (bulk_of environment.now book.old) reading) }
@@ -61,7 +63,7 @@ pub fn send_metrics<P: Peer>(
     send(alloc, book, environment, token, host, peer)
 }
 
-/// Sends one report and drops the keys that were accepted.
+/// Sends one report and drops its keys if the server accepted them, as [`send_metrics`] does.
 fn send<P: Peer>(
     alloc: Global,
     book: &mut MetricsBook,
@@ -85,7 +87,8 @@ fn send<P: Peer>(
     Ok(outcome)
 }
 
-/// Sends the report in `found`, if there is one. The number in `found` is the count of the report's keys.
+/// Sends the report in `found`, if there is one. The number in `found` is the count of the report's keys. The book
+/// isn't changed here.
 fn send_found<P: Peer>(
     alloc: Global,
     found: Option<(Value, usize)>,
@@ -114,7 +117,7 @@ fn send_found<P: Peer>(
     Ok(outcome_of(count, reading))
 }
 
-/// Returns the text of the request that carries a report.
+/// Returns the text of the request that carries a report. The report must not contain floating-point numbers.
 #[tactic(auto, unfolding(crate::specs::Metrics::metrics_request))]
 fn request_of(alloc: Global, report: &Value, token: &str, host: &str) -> Result<Bytes, Memory>
     requires host { IsTrue (fits_line host.now) }
@@ -147,7 +150,7 @@ fn outcome_of(count: usize, reading: Result<Got, BadReply>) -> MetricsOutcome
     }
 }
 
-/// Drops the keys that were accepted.
+/// Drops from the book the keys that the server accepted: those of the report if the outcome is `Sent`, otherwise none.
 fn drop_sent(book: &mut MetricsBook, environment: &str, outcome: MetricsOutcome)
     ensures { book.new ≡ book_after environment.now outcome book.old }
 {

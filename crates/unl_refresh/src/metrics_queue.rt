@@ -12,10 +12,11 @@ use std::sync::Wait;
 use unl_documents::Memory;
 use unl_metrics::MetricsBook;
 
-/// The number of books that can wait. Chosen by this project.
+/// The most books that can wait in a queue. This number is chosen by this project.
 pub(crate) const MOST_BOOKS: usize = 64;
 
-/// The right of one thread to use a queue, with what that thread put and took. It is zero-sized.
+/// The right of one thread to use a queue. It is zero-sized. In contracts it has the books that the thread put and
+/// took.
 ///
 /// The passes of a queue share 2^64 parts; one pass with all of them knows everything that was put and taken.
 pub type MetricsPass = Pass<MetricsBook, Handover>;
@@ -30,7 +31,7 @@ impl MetricsQueue {
     /// Creates an empty queue with room for 64 books. Returns it with a pass that has all parts.
     ///
     /// # Errors
-    /// `Memory`: out of memory.
+    /// `Memory` if out of memory.
     pub fn new(alloc: Global) -> Result<(MetricsQueue, MetricsPass), Memory>
         ensures { IfOk result (λ made. IsPassOfMetrics made.0 made.1 × (known_by made.1 ≡ first_handover)) }
     {
@@ -38,8 +39,8 @@ impl MetricsQueue {
         Ok((MetricsQueue { books }, pass))
     }
 
-    /// Splits one part off this pass and returns it as a pass for another thread. The new pass has put and taken
-    /// nothing.
+    /// Splits one part off `pass` and returns it as a pass for another thread. `pass` must have more than one part. The
+    /// new pass has put and taken nothing.
     pub(crate) fn split_pass(&self, pass: &mut MetricsPass) -> MetricsPass
         requires queue { IsPassOfMetrics self.now pass.old }
         requires parts { 1 < (known_by pass.old).parts }
@@ -50,7 +51,7 @@ impl MetricsQueue {
         self.books.another::<Parts>(pass)
     }
 
-    /// Adds the parts and the books of another pass to this one.
+    /// Consumes `other`, and adds its parts, and the books that were put and taken with it, to `pass`.
     pub(crate) fn join_pass(&self, pass: &mut MetricsPass, other: MetricsPass)
         requires queue { IsPassOfMetrics self.now pass.old × IsPassOfMetrics self.now other }
         requires parts { 0 < (known_by pass.old).parts }
@@ -96,7 +97,7 @@ impl MetricsQueue {
     }
 
     /// Does nothing at run time. Proves that, if the pass has all parts, the books put are those taken and those that
-    /// wait.
+    /// wait, each equally often.
     pub(crate) fn all_counted(&self, pass: &mut MetricsPass)
         requires queue { IsPassOfMetrics self.now pass.old }
         requires whole { (known_by pass.old).parts ≡ 2 ^ 64 }

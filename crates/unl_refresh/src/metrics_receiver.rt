@@ -1,7 +1,7 @@
 //! The receiving end of a metrics queue, where the poller takes the books that worker threads put into the queue.
 //!
 //! The right to use a queue is divided into 2^64 parts. The receiver starts with all of them, and each sender gets one.
-//! A pass holds parts of a queue, and in contracts also the books that were put and taken with it.
+//! A pass holds parts of this right, and in contracts also the books that were put and taken with it.
 ghost use Rattle.std.specs.Prelude.{◌≡◌, ◌<◌, ◌^◌, ◌+◌, ◌-◌, ◌++◌, List, None, MatchOption};
 ghost use Rattle.unl_metrics.specs.Book.{Book, sum_of};
 ghost use Rattle.unl_refresh.specs.MetricsQueues.{IsPassOfMetrics, Merges, known_by, new_receiving, new_sending, taking_in};
@@ -16,8 +16,9 @@ use unl_metrics::MetricsBook;
 
 /// Takes the metrics books that senders in other threads put into the queue.
 ///
-/// Its value in contracts has the number of its parts (`parts`), the books put into the queue by senders that were
-/// taken back (`handed`), and the books that it has taken (`intake`).
+/// Its value in contracts has its queue, the number of its parts (`parts`), the books put into the queue by senders
+/// that were taken back (`handed`), and the books that it has taken, with the last of them if it is not merged yet
+/// (`intake`).
 #[derive(Drop)]
 pub struct MetricsReceiver<'a> {
     queue: &'a MetricsQueue,
@@ -56,7 +57,8 @@ impl<'a> MetricsReceiver<'a> {
         }
     }
 
-    /// Returns a sender for another thread. One of this receiver's parts moves to the sender.
+    /// Returns a sender for another thread. One of this receiver's parts moves to the sender; the receiver must have
+    /// more than one.
     pub fn new_sender(&mut self) -> MetricsSender<'a>
         requires { 1 < self.old.parts }
         ensures left { self.new ≡ record self.old { parts = self.old.parts - 1 } }
@@ -66,8 +68,8 @@ impl<'a> MetricsReceiver<'a> {
         MetricsSender::new(self.queue, pass)
     }
 
-    /// Consumes a sender. Its part returns to this receiver, and the books that it put into the queue are added to
-    /// `handed`.
+    /// Consumes a sender of the same queue. Its part returns to this receiver, and the books that it put into the queue
+    /// are added to `handed`.
     pub fn take_back(&mut self, sender: MetricsSender<'_>)
         requires { sender.queue ≡ self.old.queue }
         ensures { self.new ≡ record self.old { parts = self.old.parts + 1; handed = self.old.handed ++ sender.entry.handed } }
@@ -76,9 +78,9 @@ impl<'a> MetricsReceiver<'a> {
         self.queue.join_pass(&mut self.pass, pass);
     }
 
-    /// Takes the books that wait, at most 64, and merges them into `book`, one after another. If a taken book doesn't
-    /// fit, or memory runs out, the receiver holds that book until the next call. It takes no other book before that
-    /// one is merged.
+    /// Merges the held book, if any, and then the books that wait, at most 64, into `book`, one after another. A book
+    /// that doesn't fit, or that memory runs out for, is held until the next call. No other book is taken before the
+    /// held one is merged.
     pub fn merge_into<W: Wait>(&mut self, alloc: Global, rt: &W, book: &mut MetricsBook)
         ensures same { self.new ≡ record self.old { intake = self.new.intake } }
         ensures merges { Merges book.old self.old.intake book.new self.new.intake }
@@ -91,8 +93,8 @@ impl<'a> MetricsReceiver<'a> {
         self.merge_held(alloc, book);
     }
 
-    /// Merges the held book into `book`, if there is one. If no book is held then, takes the next one and holds it.
-    /// Returns whether it took one (no contract says so).
+    /// Merges the held book, if any, into `book`. If no book is held after that, takes the next one that waits, if any,
+    /// and holds it. Returns whether it took one (no contract says so).
     fn merge_and_take<W: Wait>(&mut self, alloc: Global, rt: &W, book: &mut MetricsBook) -> bool
         ensures same { self.new ≡ record self.old { intake = self.new.intake } }
         ensures merges { Merges book.old self.old.intake book.new self.new.intake }
@@ -129,7 +131,7 @@ impl<'a> MetricsReceiver<'a> {
     }
 
     /// Consumes the receiver, and does nothing else at run time. Proves that, if the receiver has all parts (all
-    /// senders are back), the books handed over are those taken and those that wait.
+    /// senders are back), the books handed over are those taken and those that wait, each equally often.
     pub fn all_counted(self)
         requires { self.parts ≡ 2 ^ 64 }
         ensures { (waiting : List Book) × SameBooks self.entry.handed (self.entry.intake.taken ++ waiting) }

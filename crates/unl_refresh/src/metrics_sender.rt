@@ -1,4 +1,4 @@
-//! The sending end of a metrics queue, where books are handed over.
+//! The sending end of a metrics queue, by which a worker thread hands over its metrics books.
 ghost use Rattle.std.specs.Prelude.{◌≡◌, []};
 ghost use Rattle.unl_refresh.specs.MetricsQueues.{HandsOver, IsPassOfMetrics, known_by, new_sending};
 ghost use Rattle.unl_refresh.specs.Handovers.{handover, new_handover};
@@ -9,8 +9,8 @@ use std::marker::Model;
 use std::sync::Wait;
 use unl_metrics::MetricsBook;
 
-/// Hands metrics books over to a receiver in another thread. In contracts its value has the books that it has handed
-/// over.
+/// Hands metrics books over to a receiver in another thread. Its value in contracts has its queue, and the books that
+/// it has handed over, in order.
 #[derive(Drop)]
 pub struct MetricsSender<'a> {
     queue: &'a MetricsQueue,
@@ -31,7 +31,7 @@ impl<'a> Model for MetricsSender<'a> {
 }
 
 impl<'a> MetricsSender<'a> {
-    /// A sender that has handed nothing over.
+    /// Creates a sender that has handed nothing over.
     pub(crate) fn new(queue: &'a MetricsQueue, pass: MetricsPass) -> MetricsSender<'a>
         requires queue { IsPassOfMetrics queue.now pass }
         requires new { known_by pass ≡ new_handover }
@@ -41,7 +41,7 @@ impl<'a> MetricsSender<'a> {
     }
 
     /// Puts the book into the queue and leaves an empty book in its place. If the book is empty, or if 64 books already
-    /// wait, it is not handed over and stays unchanged. (The contract allows both cases at any time.)
+    /// wait, it is not handed over and stays unchanged. (The contract says only that one of the two happens.)
     pub fn hand_over<W: Wait>(&mut self, alloc: Global, rt: &W, book: &mut MetricsBook)
         ensures same { self.new ≡ record self.old { handed = self.new.handed } }
         ensures hands_over { HandsOver self.old.handed book.old self.new.handed book.new }

@@ -1,4 +1,4 @@
-//! The outcomes of refreshing and of sending metrics.
+//! The outcomes and faults of refreshing a slot or the token book, and of sending metrics.
 ghost use Rattle.std.specs.Prelude.{◌≡◌};
 ghost use Rattle.unl_refresh.specs.declared.outcome.RefreshFault.TheVariants.{PeerFault as peer_fault, Memory as out_of_memory};
 
@@ -9,28 +9,32 @@ use unl_documents::{BadDocument, Memory as NoMemory};
 use unl_http_api::BadReply;
 use unl_tokens::BadBook;
 
-/// The outcome of a refresh.
+/// The outcome of refreshing a slot or the token book.
 #[derive(Debug, Drop, PartialEq)]
 pub enum Outcome {
-    /// The reply was published. Carries the new front: the number of publications that led to the new board.
+    /// The batch or the token book in the reply was published. Carries the new front: the number of publications that
+    /// led to the new board.
     Published(u64),
-    /// The server has nothing new: status 304.
+    /// The server has nothing new for the slot: status 304.
     Unchanged,
-    /// The slot already has the whole batch, or the board already has the same token book.
+    /// The slot already has all events of the batch, or the board already has the same token book.
     Repeat,
-    /// The batch is older than the slot's version.
+    /// The batch is older than the slot's version: its epoch is lower; or it has the same epoch and begins with a
+    /// hydration, and the number of its last event is lower.
     Old,
-    /// Events between the slot's version and the batch are missing. The slot is now held.
+    /// The batch begins with a change and doesn't continue the slot's version, so events may be missing. The slot is
+    /// now held: it ignores changes until a hydration applies.
     Gap,
-    /// The slot is held: after a gap only a hydration can be applied to it.
+    /// The batch begins with a change, but the slot has been held since an earlier gap: it ignores changes until a
+    /// hydration applies.
     Held,
     /// The server answered with a status other than 200 (and, for a batch or feed, other than 304).
     Refused(u16),
-    /// The reply can't be parsed.
+    /// The reply can't be parsed. Carries the reason.
     BadAnswer(Bad),
 }
 
-/// Why a reply can't be parsed. The inner fault is never `Memory`, which is an error of the call.
+/// Why a reply can't be parsed. The inner fault is never `Memory`: if memory runs out, the call returns an error.
 #[derive(Debug, Drop, PartialEq, Error)]
 pub enum Bad {
     /// The bytes are not a valid HTTP reply.
@@ -45,7 +49,7 @@ pub enum Bad {
     /// The body is not a batch.
     #[error("the body is not a batch")]
     Batch(BadBatch),
-    /// The body is not a book of tokens.
+    /// The body is not a token book.
     #[error("the body is not a book of tokens")]
     Book(BadBook),
 }
@@ -55,18 +59,19 @@ pub enum Bad {
 pub enum MetricsOutcome {
     /// There was nothing to send, and the peer wasn't contacted.
     Nothing,
-    /// The server accepted this many keys, which are now dropped.
+    /// The server accepted a report of this many keys, and these are now dropped from the metrics book. A key is a
+    /// feature in an application during an hour, in an environment.
     Sent(usize),
-    /// The server answered with a status other than 200 and 202.
+    /// The server answered with a status other than 200 and 202. Nothing is dropped.
     Refused(u16),
-    /// The bytes are not a valid HTTP reply. The inner fault is never `Memory`.
+    /// The bytes are not a valid HTTP reply. Nothing is dropped. The inner fault is never `Memory`.
     BadAnswer(BadReply),
 }
 
 /// Why a refresh failed, or why metrics could not be sent.
 #[derive(Clone, Copy, Debug, PartialEq, Eq, Error)]
 pub enum RefreshFault {
-    /// A call of the peer failed and incremented its fault count.
+    /// Connecting to the peer, writing to it or reading from it failed, and the peer's fault count rose.
     #[error("the peer failed")]
     PeerFault,
     /// Memory ran out.

@@ -19,8 +19,9 @@ use unl_delta::Installer;
 use unl_documents::{List, Memory, Text};
 use unl_metrics::MetricsBook;
 
-/// Keeps a board up to date with an upstream server. It has a poller for each slot of the board, the texts of the
-/// tokens that the token book may contain, the server's address, and the metrics that aren't sent yet.
+/// Keeps a board up to date with an upstream server. It has the environment and the request parameters of each slot of
+/// the board, the texts of the tokens that the token book may contain, the server's `HOST:PORT`, and the metrics that
+/// aren't sent yet.
 #[derive(Drop)]
 pub struct Poller {
     slot_pollers: Vec<SlotPoller>,
@@ -52,8 +53,8 @@ impl Model for Poller {
 impl Poller {
     /// Creates the poller of a board that has one slot for each of `upstream_tokens`. `environments` are the
     /// environments of the slots, in the same order. `upstream` is the server's `HOST:PORT`. `tokens` are the texts of
-    /// the tokens that the token book may contain. With `delta` the requests are for changes, otherwise for whole
-    /// feeds. The metrics are empty.
+    /// the tokens that the token book may contain. With `delta` the requests are for events, otherwise for whole feeds.
+    /// The poller has no metrics yet.
     ///
     /// # Errors
     /// `Memory` if out of memory.
@@ -88,8 +89,9 @@ impl Poller {
         })
     }
 
-    /// Makes one request for the token book and one for each slot, publishes the replies, and sends the metrics. A
-    /// fault of the upstream doesn't end the turn.
+    /// Makes one request for the token book and one for each slot, and publishes what is new in the replies. After each
+    /// slot's request it sends one report of the metrics of the slot's environment, if there are any. A fault of the
+    /// upstream doesn't end the turn.
     ///
     /// # Errors
     /// `Memory` if out of memory. The turn ends then.
@@ -99,11 +101,13 @@ impl Poller {
         to: &mut I,
         peer: &mut P,
     ) -> Result<(), Memory>
-        // The tags of the next requests and the metrics may change, and nothing else.
+        // Of the poller, only the tags of the next requests and the metrics may change.
         ensures same { KeepsDuty self.old self.new }
 
-        // Unless the front (the number of publications so far) is near its maximum, 2^64 - 1: each exchange is made in
-        // order, with its request and its effect, whether it got a reply or the peer failed.
+        // If the board has all slots of the poller, and its front (the number of publications so far) stays below
+        // 2^64 - 1 with one publication for the book and one for each slot: each exchange is made in order, with its
+        // request and its effect, whether it got a reply or the peer failed. If memory runs out in an exchange, the
+        // turn ends with that exchange.
         ensures polls { (I.installed to.old).front + self.old.slots + 1 < 2 ^ 64 - 1
             → self.old.slots ≤ length (I.installed to.old).places
             → ByResult result (MakesTurn self.old.known self.old.upstream self.old.slot_pollers)
@@ -113,8 +117,9 @@ impl Poller {
             (poll_state (I.installed to.new) self.new.tags self.new.metrics
             (peer_view (P.state peer.new) (P.Source.faults peer.new))) }
 
-        // So if memory did not run out, at least one connection for the book and one for each slot is made, unless the
-        // peer failed.
+        // So, on the same conditions, if memory did not run out and the peer did not fail, at least one connection is
+        // made for the book and one for each slot. In any case each connection uses up one reply, unless the peer
+        // failed.
         ensures asks { (I.installed to.old).front + self.old.slots + 1 < 2 ^ 64 - 1
             → self.old.slots ≤ length (I.installed to.old).places → OnOk result (Connects (self.old.slots + 1)
             (P.state peer.old).replies (P.Source.faults peer.old) (P.state peer.new).replies (P.Source.faults peer.new)) }
@@ -127,8 +132,9 @@ impl Poller {
         }
     }
 
-    /// Takes the metrics books that wait at a receiver, and adds them to the metrics that aren't sent yet. A book that
-    /// doesn't fit, or that memory runs out for, stays at the receiver.
+    /// Adds the metrics book that the receiver holds, if any, and then those that wait in its queue, at most 64, to the
+    /// metrics that aren't sent yet. The first book that doesn't fit, or that memory runs out for, is held by the
+    /// receiver until the next call, and no further book is taken.
     pub fn take_metrics<W: Wait>(
         &mut self,
         alloc: Global,

@@ -15,11 +15,11 @@ use unl_delta::Installer;
 /// Makes one request for what is new in a slot, and applies the reply: a batch of events, or a feed as one hydration. A
 /// batch that applies is published by one install. If the batch doesn't continue the slot's version (verdict
 /// [`Gap`](unl_delta::Verdict::Gap)), the slot is held: it ignores changes until a hydration applies. In all other
-/// outcomes it is unchanged.
+/// outcomes the slot is unchanged.
 ///
-/// The ask's tag becomes the reply's tag if the reply was published or the slot already had all of it. It is kept if
-/// the server had nothing new or refused. In all other cases it is removed, so that the server sends everything next
-/// time.
+/// The ask's tag becomes the reply's tag if the reply was published or the slot already had all of it. The ask keeps
+/// its tag if the server had nothing new or refused. In all other cases, also on an error, the ask has no tag
+/// afterwards, so that the server sends everything next time.
 ///
 /// # Errors
 /// `PeerFault` if the peer can't be connected to, written to or read; `Memory` if out of memory. Nothing is applied
@@ -45,7 +45,8 @@ pub fn refresh_once<I: Installer, P: Peer>(
         (refresh_state (I.installed to.new) ask.new
         (peer_view (P.state peer.new) (P.Source.faults peer.new))) }
 
-    // The next of the peer's replies determines the result, and is used up.
+    // If the peer's replies are observable, the next one determines the outcome. Unless the peer failed or memory ran
+    // out, exactly one reply is used up.
     ensures next_reply { TakesNextReply slot
         (refresh_state (I.installed to.old) ask.old
         (peer_view (P.state peer.old) (P.Source.faults peer.old)))
@@ -54,7 +55,7 @@ pub fn refresh_once<I: Installer, P: Peer>(
         (peer_view (P.state peer.new) (P.Source.faults peer.new))) }
 
     // If the slot's version, if any, represents a line of histories and the server sends batches from that line, the
-    // new version represents the line too. [`unl_delta::verdict`] explains lines.
+    // new version represents the line too, and is not older. [`unl_delta::verdict`] explains lines.
     ensures delivery { Delivers slot
         (refresh_state (I.installed to.old) ask.old
         (peer_view (P.state peer.old) (P.Source.faults peer.old)))
@@ -67,7 +68,7 @@ pub fn refresh_once<I: Installer, P: Peer>(
     refresh(alloc, to, slot, ask, peer)
 }
 
-/// Makes one request and applies the reply.
+/// Makes one request and applies the reply, as [`refresh_once`] does.
 fn refresh<I: Installer, P: Peer>(
     alloc: Global,
     to: &mut I,

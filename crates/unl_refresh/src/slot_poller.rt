@@ -1,4 +1,4 @@
-//! The request parameters of one slot.
+//! The environment of one slot, and the parameters of the request that refreshes the slot.
 ghost use Rattle.std.specs.Prelude.{◌≡◌, IfOk, IsTrue, None};
 ghost use Rattle.unl_http_api.specs.RequestText.{fits_if_any, fits_line};
 
@@ -18,7 +18,8 @@ pub(crate) struct SlotPoller {
     ghost tag: { IsTrue (fits_if_any ask.tag) },
 }
 
-/// Creates the poller of a slot for `environment`. Its first ask is to `host`, with `token` and without a tag.
+/// Creates the poller of a slot for `environment`. Its first ask is what [`first_ask`] creates from the other
+/// arguments.
 pub(crate) fn poller_with(
     alloc: Global,
     host: &Text,
@@ -37,7 +38,8 @@ pub(crate) fn poller_with(
     Ok(SlotPoller { environment, ask })
 }
 
-/// Creates the first ask to a server: with a token, for events if `delta` and otherwise for a feed, and without a tag.
+/// Creates the first ask to the server `host`: with a token, for events if `delta` and otherwise for a feed, and
+/// without a tag.
 ///
 /// # Errors
 /// `Memory` if out of memory.

@@ -12,7 +12,7 @@ use unl_documents::{List, Memory, Text};
 /// the same order. With `delta`, the pollers request events, otherwise whole feeds.
 ///
 /// # Errors
-/// `Memory`: out of memory.
+/// `Memory` if out of memory.
 pub(crate) fn slot_pollers(
     alloc: Global,
     host: &Text,

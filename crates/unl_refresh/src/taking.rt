@@ -19,11 +19,12 @@ use unl_http_api::{BadReply, Bytes, Got};
 pub(crate) struct AppliedReply {
     /// What the reply resulted in.
     pub(crate) outcome: Outcome,
-    /// The tag for the next request, if it has one.
+    /// The tag for the next request. `None`: the server sends everything.
     pub(crate) tag: Option<Bytes>,
 }
 
-/// Applies the result of parsing a reply. `tag` is the tag that the request had.
+/// Applies to a slot the result of parsing a reply. If `delta`, events were requested, otherwise a feed. `tag` is the
+/// tag that the request had.
 pub(crate) fn take_reading<I: Installer>(
     alloc: Global,
     to: &mut I,
@@ -98,7 +99,7 @@ fn take_reply<I: Installer>(
     }
 }
 
-/// Returns the number of the version of a slot, if it has one.
+/// Returns the number of a slot's version, or `None` if the slot has no version.
 fn number_held<I: Installer>(to: &I, slot: usize) -> Option<u64>
     requires { slot < length (I.installed to.now).places }
     ensures { result ≡ number_held (place_of (I.installed to.now) slot) }
@@ -109,7 +110,7 @@ fn number_held<I: Installer>(to: &I, slot: usize) -> Option<u64>
     }
 }
 
-/// Applies a batch. `tag` is the tag of the reply that the batch came in.
+/// Applies a batch to a slot, by its verdict. `tag` is the tag of the reply that the batch came in.
 fn follow_batch<I: Installer>(
     alloc: Global,
     to: &mut I,
@@ -134,7 +135,7 @@ fn follow_batch<I: Installer>(
     })
 }
 
-/// Returns the outcome of a verdict. `front` is the front after it.
+/// Returns the outcome of a verdict. `front` is the number of publications after the verdict was carried out.
 fn outcome_of(verdict: Verdict, front: u64) -> Outcome
     ensures outcome { result ≡ outcome_of verdict front }
     ensures named { IsNamedOutcome result }
@@ -148,7 +149,8 @@ fn outcome_of(verdict: Verdict, front: u64) -> Outcome
     }
 }
 
-/// Returns the tag for the next request: none if the server must send everything.
+/// Returns the tag for the next request: the reply's `tag` if the slot now has the whole batch, otherwise none, so that
+/// the server sends everything.
 fn tag_after(verdict: Verdict, tag: Option<Bytes>) -> Option<Bytes>
     requires { IsTrue (fits_if_any tag) }
     ensures after { result ≡ tag_after verdict tag }

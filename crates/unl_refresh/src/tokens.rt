@@ -21,11 +21,11 @@ use unl_documents::{List, Memory, Text};
 use unl_http_api::{BadReply, Bytes, Got, Method, write_request};
 use unl_tokens::{BadBook, Book, write_request as write_texts};
 
-/// Asks a server once which of these tokens it knows (`POST /edge/validate`, as in Unleash Edge), and keeps from the
-/// book in its reply only the tokens with these texts. If the result differs from the current book, it is published,
-/// and the outcome is `Published` with the new front (the number of publications so far). Otherwise nothing changes,
-/// and the outcome is `Repeat` for the same book, `Refused` for a status other than 200, or `BadAnswer` for a reply
-/// that can't be parsed.
+/// Asks a server once which of the tokens with these `texts` it knows (`POST /edge/validate`, as in Unleash Edge), and
+/// keeps from the book in its reply only the tokens with these texts. If the result differs from the current book, it
+/// is published, and the outcome is `Published` with the new front (the number of publications so far). Otherwise
+/// nothing changes, and the outcome is `Repeat` for the same book, `Refused` for a status other than 200, or
+/// `BadAnswer` for a reply that can't be parsed.
 ///
 /// # Errors
 /// `PeerFault` if the peer can't be connected to, written to or read; `Memory` if out of memory. Nothing is applied
@@ -46,12 +46,12 @@ pub fn refresh_tokens<I: Installer, P: Peer>(
         result (I.installed to.new)
         (peer_view (P.state peer.new) (P.Source.faults peer.new)) }
 
-    // If the peer's replies are observable, the reply is the next one of them.
+    // If the peer's replies are observable, the reply that is applied is the next one of them.
     ensures next_reply { (list : List (List ℕ)) (reading : Result Got BadReply) → (P.state peer.old).replies ≡ Some list
         → IsReply (next_of list) reading
         → IfOk result (λ outcome. Installs (book_in_reply texts.now reading) (I.installed to.old) outcome (I.installed to.new)) }
 
-    // Unless the peer failed or memory ran out, exactly one reply is taken from the peer's replies.
+    // Unless the peer failed or memory ran out, exactly one of the peer's replies is used up.
     ensures one_reply { ¬ (Rose (P.Source.faults peer.old) (P.Source.faults peer.new)) → result ≢ Err RefreshFault.Memory
         → (P.state peer.new).replies ≡ option_map (λ list. drop 1 list) (P.state peer.old).replies }
 
@@ -61,7 +61,7 @@ pub fn refresh_tokens<I: Installer, P: Peer>(
     refresh(alloc, to, texts, host, peer)
 }
 
-/// Makes one request and applies the reply.
+/// Makes one request and applies the reply, as [`refresh_tokens`] does.
 fn refresh<I: Installer, P: Peer>(
     alloc: Global,
     to: &mut I,
@@ -83,7 +83,7 @@ fn refresh<I: Installer, P: Peer>(
     Ok(outcome)
 }
 
-/// Returns the text of the request for a book of these texts.
+/// Returns the text of the request that asks which of the tokens with these texts the server knows.
 #[tactic(auto, unfolding(crate::specs::Tokens::tokens_request))]
 fn request_of(alloc: Global, texts: &List<Text>, host: &str) -> Result<Bytes, Memory>
     requires { IsTrue (fits_line host.now) }
@@ -102,7 +102,8 @@ fn request_of(alloc: Global, texts: &List<Text>, host: &str) -> Result<Bytes, Me
     )
 }
 
-/// Installs the book in a parsed reply.
+/// Installs the book in a reply, unless it is the current one. `reading` is the result of parsing the reply. If it has
+/// no book, nothing changes, and the outcome says why.
 fn take_book<I: Installer>(
     alloc: Global,
     to: &mut I,
@@ -123,7 +124,7 @@ fn take_book<I: Installer>(
     }
 }
 
-/// Publishes a book, unless it is the current one.
+/// Publishes a book, unless it is the same as the current one.
 fn install<I: Installer>(alloc: Global, to: &mut I, book: Book) -> Result<Outcome, Memory>
     requires { (I.installed to.old).front < 2 ^ 64 - 1 }
     ensures installs { IfOk result (λ outcome. Installs (Ok book) (I.installed to.old) outcome (I.installed to.new)) }
@@ -137,7 +138,8 @@ fn install<I: Installer>(alloc: Global, to: &mut I, book: Book) -> Result<Outcom
     }
 }
 
-/// Returns the book in a parsed reply, limited to these texts; else the outcome.
+/// Returns those tokens of the book in a reply that have these texts, or the outcome that says why there is no book.
+/// `reading` is the result of parsing the reply.
 fn book_in_reply(
     alloc: Global,
     texts: &List<Text>,
@@ -154,7 +156,7 @@ fn book_in_reply(
     }
 }
 
-/// Returns the book in a body, limited to these texts; else the outcome.
+/// Returns those tokens of the book in a body that have these texts, or the outcome that says why the body has no book.
 fn book_in_body(
     alloc: Global,
     texts: &List<Text>,

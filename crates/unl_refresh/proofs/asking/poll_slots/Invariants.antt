@@ -5,7 +5,7 @@ use Rattle.unl_refresh.specs.SlotParameters.{parameters_of, tag_of}
 use Rattle.unl_refresh.specs.Turns.{PollsSlotsFrom, PollState, StopsFrom, poll_state}
 use Rattle.unl_refresh.proofs.asking.poll_slots.Given as goal
 
--- the slots before this one were polled; polling the rest polls all, and memory that runs out there runs out in the whole
+-- the slots before this one were polled: if the rest is polled, all are; if memory runs out at one of the rest, it runs out at one of all
 abbrev pub invariant-loop-slot : goal.invariant-loop-slot
 invariant-loop-slot g l = record {
   places : length (g.I.Installer.installed l.to).places ≡ length (g.I.Installer.installed l.initial.to).places;
