@@ -1,4 +1,4 @@
--- The effect of a line of tokens.
+-- The effect of an input line with a book of tokens.
 use Rattle.std.proofs.Common.{◌≡◌, ◌≢◌, ℕ, List, ap, cond}
 use Rattle.unl_tokens.specs.declared.token.Token.{Token}
 use Rattle.unl_core.specs.DeskStates.{DeskState, with_book}

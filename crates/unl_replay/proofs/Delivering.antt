@@ -111,7 +111,7 @@ delivered bytes histories are sent = asks_from histories 1 empty_replay (lines b
 
 -- ---- answered lines
 
--- if `P` holds after any result of a line that is not refused, it holds after a line that was answered
+-- if a line that is not refused leaves a state with `P`, the state after a line that was answered has `P`
 after_line : (P : ReplayState → Type 0) (k : ℕ) (b after : ReplayState) (line text : List ℕ)
     → IfOk (take_line line_answer k b line) (λ (taken : Taken ReplayState). P taken.desk)
     → take_line line_answer k b line ≡ Ok (record { text = text; desk = after }) → P after
@@ -123,7 +123,7 @@ abbrev effect_or : LineEffect → LineResult ReplayState → LineEffect
 effect_or other (Ok effect) = effect
 effect_or other (Err cause) = other
 
--- a line that isn't refused has one effect
+-- two effects of the same line, which isn't refused, are equal
 same_effect : (x y : LineEffect) (r : LineReading LineEffect) → r ≡ Ok x → refusing refusal_text r ≡ Ok y → x ≡ y
 same_effect x y r one two =
     ap (effect_or x) (subst (λ (o : LineReading LineEffect). refusing refusal_text o ≡ Ok y) one two)
@@ -174,7 +174,7 @@ never_falls_from environment k b (one ∷ more) agrees replayed =
 
 -- ---- the answered lines of an input
 
--- the list of answered lines, by the result of the first line; it is empty if that line is refused
+-- the list of answered lines, by the result of the first line; the list is empty if that line is refused
 abbrev replayed_by : ℕ → ReplayState → List ℕ → LineResult ReplayState → (ReplayState → List ReplayedLine) → List ReplayedLine
 replayed_by k b line (Ok taken) rest = record { number = k; before = b; line = line; text = taken.text; after = taken.desk } ∷ rest taken.desk
 replayed_by k b line (Err cause) rest = []
@@ -261,7 +261,7 @@ among_first bytes ls end old new are_first_lines sent = record {
 of_read : (P : List ℕ → Type 0) (left left_after : Option (List ℕ)) (holds : HoldsOfRead left left_after P) → P holds.read
 of_read P left left_after holds = subst P (append-nil holds.read) (holds.holds [] (λ end. refl))
 
--- if the processing ended at a refused line, its number and cause exist, and the text with the cause was sent
+-- if processing ended at a refused line, the line has a number and a cause, and the text and then the line that reports them were sent
 refused_end : (text : List ℕ) (ending : Ending) (old new : Option (List ℕ)) → IsRefused ending → Sends old (text ++ ending_text ending) new
     → (k : ℕ) × (cause : List ℕ) × Sends old (text ++ refused_text k cause) new
 refused_end text done old new is sends = absurd is

@@ -36,13 +36,13 @@ pub record Leads (d : DeskState) (Brings : Delivery → Type 0) (Holds : DeskSta
       → (verdict : Verdict) → verdict_of (place_of (installed_by (with_name environment d)) slot) batch ≡ verdict
       → Holds (after_verdict verdict slot batch (with_name environment d))
 
--- two readings that continue the same reading: if the second has `Q`, the first has `P`
+-- two readings that continue the same reading `r`: if `Q` of the second implies `P` of the first for each value of `r`, then also for `r`
 and_both : {A B C : Type 0} (r : LineReading A) (f : A → LineReading B) (g : A → LineReading C) (P : B → Type 0) (Q : C → Type 0)
     → ((x : A) → IfOk (g x) Q → IfOk (f x) P) → IfOk (and_then r g) Q → IfOk (and_then r f) P
 and_both (Ok x) f g P Q step premise = step x premise
 and_both (Err e) f g P Q step premise = tt
 
--- a reading that continues another has `P` if each of its continuations has
+-- a reading that continues another has `P` if it has `P` for each value of the other
 and_more : {A B : Type 0} (r : LineReading A) (f : A → LineReading B) (P : B → Type 0) → ((x : A) → IfOk (f x) P) → IfOk (and_then r f) P
 and_more (Ok x) f P step = step x
 and_more (Err e) f P step = tt

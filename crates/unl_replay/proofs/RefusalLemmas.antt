@@ -21,17 +21,17 @@ forwarded : {A E : Type 0} (becomes : E → Refusal) (memory : E) → becomes me
 forwarded becomes memory none e refusal reading made known other =
     ap (refusing becomes) (known (λ same. other (made ∙ ap becomes same ∙ none))) ∙ ap Err (sym made)
 
--- a fault of a document
+-- a fault of a document that is converted to a refusal
 pub refused : {A : Type 0} (e : BadDocument) (refusal : Refusal) (reading : Result A BadDocument) → refusal ≡ refusal_for e → (e ≢ document.Memory → reading ≡ Err e)
     → refusal ≢ Memory → refusing refusal_for reading ≡ Err refusal
 refused e refusal reading made known other = forwarded refusal_for document.Memory refl e refusal reading made known other
 
--- a fault of a batch
+-- a fault of a batch that is converted to a refusal
 pub refused_batch : {A : Type 0} (e : BadBatch) (refusal : Refusal) (reading : Result A BadBatch) → refusal ≡ refusal_for_batch e → (e ≢ batch.Memory → reading ≡ Err e)
     → refusal ≢ Memory → refusing refusal_for_batch reading ≡ Err refusal
 refused_batch e refusal reading made known other = forwarded refusal_for_batch batch.Memory refl e refusal reading made known other
 
--- a fault of a book
+-- a fault of a token book that is converted to a refusal
 pub refused_book : {A : Type 0} (e : BadBook) (refusal : Refusal) (reading : Result A BadBook) → refusal ≡ refusal_for_book e → (e ≢ book.Memory → reading ≡ Err e)
     → refusal ≢ Memory → refusing refusal_for_book reading ≡ Err refusal
 refused_book e refusal reading made known other = forwarded refusal_for_book book.Memory refl e refusal reading made known other

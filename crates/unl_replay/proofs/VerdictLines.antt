@@ -20,7 +20,7 @@ desk_after_verdict Repeat slot batch d after is = is
 desk_after_verdict Old slot batch d after is = is
 desk_after_verdict Held slot batch d after is = is
 
--- the printed line reports the verdict, with the desk after the batch
+-- the printed line and the desk after a batch are those of the specification for the verdict, or memory ran out
 pub line_of_verdict : (said : Result (Vec ℕ Global) Refusal) (k slot : ℕ) (batch : Batch) (d after : DeskState) (v : Verdict)
     → v ≡ verdict_of (place_of (installed_by d) slot) batch
     → ByVerdict v (after ≡ with_batch slot batch d) (after ≡ with_hold slot d) (after ≡ d)

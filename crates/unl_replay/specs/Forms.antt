@@ -43,7 +43,7 @@ abbrev pub method_by : Field → List ℕ → Reading Method
 method_by field word =
     if bytes_eq word (codes "GET") then Ok Get else (if bytes_eq word (codes "POST") then Ok Post else Err (WrongKind field))
 
--- the method that a JSON value names; the error `WrongKind` for a value that is not a string
+-- the method that a JSON value names; the error `WrongKind` for any value but the strings `GET` and `POST`
 unfoldable pub method : Field → Data → Reading Method
 method field value = do
   word ← ok_or (as_str value) (WrongKind field)

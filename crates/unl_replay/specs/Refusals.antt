@@ -47,7 +47,7 @@ refusal_for_batch (batch.HydrationNotFirst place) = Batch (batch.HydrationNotFir
 refusal_for_batch (batch.NotRising place) = Batch (batch.NotRising place)
 refusal_for_batch batch.Memory = Memory
 
--- the result with its error, if it is one, changed by `fault`
+-- the result, with `fault` applied to its error if it has one
 abbrev pub refusing : {A E F : Type 0} → (E → F) → Result A E → Result A F
 refusing fault (Ok x) = Ok x
 refusing fault (Err e) = Err (fault e)

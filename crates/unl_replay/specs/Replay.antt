@@ -115,7 +115,7 @@ after_verdict Held slot batch d = d
 abbrev pub effect_of_verdict : ℕ → ℕ → Batch → DeskState → Verdict → DeskEffect
 effect_of_verdict k slot batch d v = with_verdict_line k (word_of v) slot (after_verdict v slot batch d)
 
--- the effect of a batch on a slot; an error if there is no slot
+-- the effect of a batch on a slot; the error `TooManyEnvironments` if there is no slot
 abbrev pub put_batch_at : ℕ → Batch → DeskState → Option ℕ → LineReading DeskEffect
 put_batch_at k batch d None = Err TooManyEnvironments
 put_batch_at k batch d (Some slot) = Ok (effect_of_verdict k slot batch d (verdict_of (place_of (installed_by d) slot) batch))

@@ -35,7 +35,7 @@ abbrev pub text_of : List ReplayedLine → List ℕ
 text_of [] = []
 text_of (one ∷ more) = one.text ++ text_of more
 
--- the line prints this text and changes the state `before` to the state `after`
+-- the line prints its `text` and changes the state from `before` to `after`
 abbrev pub IsReplayed : ReplayedLine → Type 0
 IsReplayed one = take_line line_answer one.number one.before one.line ≡ Ok (record { text = one.text; desk = one.after })
 

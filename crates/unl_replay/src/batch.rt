@@ -19,7 +19,7 @@ use unl_documents::{BadDocument, Feed, Field};
 /// without `after` follows that number.
 ///
 /// # Errors
-/// `Document` if the line has no batch, `Batch` if the batch can't be read, or `Memory`: out of memory.
+/// `Document` if the line has no batch, `Batch` if the batch can't be read, `Memory` if out of memory.
 #[tactic(auto, using(crate::proofs::RefusalLemmas::refused_batch), unfolding(unl_documents::specs::Kinds::required))]
 pub fn batch_in(alloc: Global, held: Option<u64>, line: &Value) -> Result<Batch, Refusal>
     ensures gives { Gives Memory result (batch_in held (view line.now)) }
@@ -34,7 +34,7 @@ pub fn batch_in(alloc: Global, held: Option<u64>, line: &Value) -> Result<Batch,
 /// Parses the feed of a line, which is the whole state of an environment, and converts it to a batch.
 ///
 /// # Errors
-/// `Document` if the feed is missing or can't be read, `NoNumber` if it has no number, or `Memory`: out of memory.
+/// `Document` if the feed is missing or can't be read, `NoNumber` if it has no number, `Memory` if out of memory.
 #[tactic(auto, using(crate::proofs::RefusalLemmas::refused))]
 pub fn feed_in(alloc: Global, line: &Value) -> Result<Batch, Refusal>
     ensures gives { Gives Memory result (feed_in (view line.now)) }
@@ -45,7 +45,7 @@ pub fn feed_in(alloc: Global, line: &Value) -> Result<Batch, Refusal>
 }
 
 /// Converts a feed to a batch with one hydration, which replaces the state of the environment. The error is `NoNumber`
-/// if the feed has no number, or `Memory`: out of memory.
+/// if the feed has no number, or `Memory` if out of memory.
 fn as_batch(alloc: Global, feed: Feed) -> Result<Batch, Refusal>
     requires { IsValidState feed.state }
     ensures gives { Gives Memory result (as_batch feed) }

@@ -21,7 +21,7 @@ pub enum Refusal {
     #[error("the batch is not accepted")]
     Batch(BadBatch),
     /// The feed has no number.
-    #[error("the tag has no number")]
+    #[error("the feed has no number")]
     NoNumber,
     /// The environment is new, and there are eight already.
     #[error("there are too many environments")]

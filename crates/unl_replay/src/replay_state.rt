@@ -63,7 +63,7 @@ fn ask_line(alloc: Global, number: u64, front: u64, reply: &Reply) -> Result<Vec
     Ok(line)
 }
 
-/// Processes a line with an ask.
+/// Processes a line with an ask: a request, and the draw with which it is answered.
 #[tactic(auto, using(crate::proofs::RefusalLemmas::refused))]
 fn ask_of_line(
     alloc: Global,
@@ -124,8 +124,8 @@ fn metrics_of_line(
     put_metrics(alloc, &mut replay_state.book, number, environment.as_str())
 }
 
-/// Returns the line with the bulk report of an environment (its counts as JSON, those that fit into 1,048,576 bytes), and
-/// removes the reported counts from the metrics book. Returns a line with a dash if the environment has no counts.
+/// Returns the line with the bulk report of an environment (its counts as JSON, those that fit into 1,048,576 bytes),
+/// and removes the reported counts from the metrics book. Returns a line with a dash if the environment has no counts.
 fn put_metrics(
     alloc: Global,
     book: &mut MetricsBook,
@@ -152,7 +152,7 @@ fn metrics_line(alloc: Global, number: u64, body: &str) -> Result<String, AllocE
     format!(in alloc; "{number}: metrics {body}\n")
 }
 
-/// Processes a line, given the value of its key `op`. Any other op than the five is refused with `WrongKind`.
+/// Processes a line, given the value of its key `op`. An op other than the five below is refused with `WrongKind`.
 fn answer_op(
     alloc: Global,
     replay_state: &mut ReplayState,

@@ -1,6 +1,6 @@
-//! Processes lines with tokens, batches and feeds. These lines change the desk, which has the current board: the
-//! tokens, and the version of each environment in its slot. In the functions that return a printed line, `number` is
-//! the number of the input line.
+//! Processes lines with tokens, batches and feeds. A feed is a whole state with its epoch and number, and is applied as a
+//! batch of one hydration. These lines change the desk, which has the current board: the tokens, and the version of
+//! each environment in its slot. In the functions that return a printed line, `number` is the number of the input line.
 ghost use Rattle.std.specs.Prelude.{◌≡◌, ◌+◌, ◌-◌, ◌^◌, ◌<◌, ◌≤◌, Ok, IfOk, string_bytes, length, decimal};
 ghost use Rattle.serde_json.specs.View.{view};
 ghost use Rattle.unl_core.specs.DeskStates.{installed_by};
@@ -78,8 +78,8 @@ fn tokens_line(
     format!(in alloc; "{number}: tokens generation {generation} front {front}\n")
 }
 
-/// Returns the line for the verdict on a batch. `word` is the name of the verdict, `version` the revision of the
-/// environment, and `front` the number of changes published so far.
+/// Returns the line for the verdict on a batch. `word` is the name of the verdict, `version` the text of the
+/// environment's revision, and `front` the number of changes published so far.
 fn verdict_line(
     alloc: Global,
     number: u64,
