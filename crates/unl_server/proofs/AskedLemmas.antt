@@ -8,7 +8,7 @@ use Rattle.unl_http_api.specs.declared.request.Request.{Request}
 use Rattle.unl_http_api.specs.Session.{ReadsRequests}
 use Rattle.unl_http_api.proofs.SessionLemmas.{Reads-append, Reads_more}
 
--- The bytes begin with some requests, which were answered. If memory ran out, one more may have taken a draw.
+-- The bytes begin with some requests, which were answered. If memory ran out, it may have been while one more request was answered.
 pub record Asks
     {S : Type 0} (Step : S → Request → Reply → S → Type 0) (RunsOut : S → Request → S → Type 0) (bytes : List ℕ) (before : S)
     (end : End) (after : S) : Type 0 where

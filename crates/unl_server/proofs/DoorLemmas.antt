@@ -14,7 +14,7 @@ use Rattle.unl_server.specs.Links.{LinkView, link_view}
 
 -- ---- a chain
 
--- one more link
+-- after n links, one more was served: n + 1 links
 pub door_links_more : {S : Type 0} (Serves : S → Coming → LinkView → LinkView → S → Coming → Type 0) (n : ℕ)
     (before middle after : ServerAndDoor S)
     → ServesDoorLinks Serves n before middle → ServesDoorLink Serves middle after → ServesDoorLinks Serves (n + 1) before after
@@ -24,13 +24,13 @@ door_links_more {S} Serves n before middle after links link =
     both : ServesDoorLinks Serves (suc n) before after
     both = (middle, links, link)
 
--- no more link
+-- after n links, nothing changed: still n links
 pub door_links_same : {S : Type 0} (Serves : S → Coming → LinkView → LinkView → S → Coming → Type 0) (n : ℕ)
     (before middle after : ServerAndDoor S)
     → ServesDoorLinks Serves n before middle → after ≡ middle → ServesDoorLinks Serves n before after
 door_links_same Serves n before middle after links same = subst (ServesDoorLinks Serves n before) (sym same) links
 
--- a property that holds for no link, and is preserved by one more, holds for all
+-- a property that holds before the first link, and that each link preserves, holds after any number of links
 pub door_links_all : {S : Type 0} (Serves : S → Coming → LinkView → LinkView → S → Coming → Type 0)
     (P : ℕ → ServerAndDoor S → Type 0) (before : ServerAndDoor S)
     → P 0 before → ((n : ℕ) (middle after : ServerAndDoor S) → P n middle → ServesDoorLink Serves middle after → P (suc n) after)
@@ -112,14 +112,14 @@ linked_more LinkServed server coming (l ∷ links) (b ∷ backs) middle coming_m
   linked_more LinkServed linked.0 linked.1 links backs middle coming_middle bytes back after coming_after linked.3 one,
 )
 
--- a door whose returned links are observable has one more pair
+-- if the returned links of a door are observable, their list grows by the pair of the next one's sent bytes and fault count
 returns_one : (backs : List (List ℕ × ℕ)) (sent : Option (List ℕ)) (text : List ℕ) (faults : ℕ) (returned : Option (List (List ℕ × ℕ)))
     → sent ≡ Some text → returned ≡ Some backs → with_returned sent faults returned ≡ Some (backs ++ (text, faults) ∷ [])
 returns_one backs sent text faults returned known known_back =
     ap (λ (r : Option (List (List ℕ × ℕ))). with_returned sent faults r) known_back
     ∙ ap (λ (s : Option (List ℕ)). option_map (λ bytes. backs ++ (bytes, faults) ∷ []) s) known
 
--- a list of coming links is its first and the others
+-- a list of coming links that isn't empty is its first link and then the others
 first_of : (links : List (List ℕ)) → ¬ (links ≡ []) → links ≡ next_of links ∷ drop 1 links
 first_of [] some = absurd (some refl)
 first_of (bytes ∷ links) some = refl

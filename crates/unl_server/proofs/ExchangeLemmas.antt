@@ -11,7 +11,7 @@ use Rattle.unl_server.specs.declared.receive.Received.TheVariants.{Request as Wh
 use Rattle.unl_server.specs.Exchange.{ConnectionState, ServesTurn, Writes, Replies, Replied, SendsRefusal}
 use Rattle.unl_server.specs.Receive.{Receives}
 
--- bad bytes end the connection, and are refused if the refusal was sent
+-- refused bytes end the connection, by `Refused` if the refusal was sent
 pub turn_refused : {S : Type 0} (Step : S → Request → Reply → S → Type 0) (RunsOut : S → Request → S → Type 0) (last : Bool)
     (old new : ConnectionState S) (status : ℕ) (end : End) (held : List ℕ) (left sent : Option (List ℕ))
     → Receives old.held old.left (Bad status) held left → new.left ≡ left → new.state ≡ old.state → sent ≡ old.sent
@@ -42,7 +42,7 @@ turn_refused Step RunsOut last old new status Asked held left sent receives same
 turn_refused Step RunsOut last old new status Limit held left sent receives same same_state unsent refuses = absurd refuses
 turn_refused Step RunsOut last old new status CutOff held left sent receives same same_state unsent refuses = absurd refuses
 
--- a refusal that was not sent in full
+-- the end of the connection if a refusal was not sent in full
 pub refused_end : (status : ℕ) (sent sent_after : Option (List ℕ)) (text : List ℕ) (end : End) → text ≡ refusal_text status
     → Writes text sent (Some end) sent_after → SendsRefusal status sent end sent_after
 refused_end status sent sent_after text WriteFault is writes =
@@ -55,7 +55,7 @@ refused_end status sent sent_after text Asked is writes = absurd writes
 refused_end status sent sent_after text Limit is writes = absurd writes
 refused_end status sent sent_after text CutOff is writes = absurd writes
 
--- a reply that was not sent in full
+-- the effect of the turn if a reply was not sent in full
 pub turn_cut : {S : Type 0} (Step : S → Request → Reply → S → Type 0) (RunsOut : S → Request → S → Type 0)
     (last close : Bool) (old new : ConnectionState S) (request : Request) (end : End) (held : List ℕ)
     (left sent : Option (List ℕ)) → Receives old.held old.left (Whole request) held left → new.left ≡ left

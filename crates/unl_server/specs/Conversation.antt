@@ -22,7 +22,7 @@ AreAnswered {S} Step count before (q ∷ qs) text after =
     × (text ≡ reply_text reply (q.close || count == 999) ++ more)
     × AreAnswered Step (count + 1) middle qs more after
 
--- the bytes that are sent after the replies if the connection ends like this: a refusal of invalid bytes, or nothing
+-- the bytes that are sent after the replies if the connection ends for this reason: a refusal, or nothing
 abbrev pub farewell : End → List ℕ
 farewell Closed = []
 farewell Asked = []
@@ -44,8 +44,8 @@ pub record Serves
   pub answered : AreAnswered Step 0 before requests text after
   pub sends : Sends sent (text ++ farewell end) sent_after
 
--- A read failed. The bytes read until then, which are all but the bytes left, form a session of their own, whose requests
--- were answered.
+-- A read failed. The bytes read until then, which are all but the bytes left, form a session of their own: its requests were answered, and
+-- its end is `Closed` or `CutOff`.
 pub record ServesPrefix
     {S : Type 0} (Step : S → Request → Reply → S → Type 0) (bytes : List ℕ) (sent : Option (List ℕ)) (before after : S)
     (left_after sent_after : Option (List ℕ)) : Type 0 where
@@ -80,7 +80,7 @@ pub record CutInRefusal
   pub answered : AreAnswered Step 0 before requests text after
   pub sends : SendsPrefix sent (text ++ refusal_text status) sent_after
 
--- the bytes begin with a request, and its reply was not sent in full
+-- the bytes begin with a request, and memory ran out while the handler answered it (`RunsOut`) or after it had answered (`Step`)
 pub record IsUnreplied
     {S : Type 0} (Step : S → Request → Reply → S → Type 0) (RunsOut : S → Request → S → Type 0) (bytes : List ℕ)
     (before after : S) : Type 0 where

@@ -58,7 +58,7 @@ pub record Stops
   pub same : new.state ≡ old.state
   pub sends : Sent old.sent farewell new.sent
 
--- a request was read, and its reply was not sent in full
+-- a request was read, and its reply was not sent in full, since memory ran out
 pub record Breaks
     {S : Type 0} (Step : S → Request → Reply → S → Type 0) (RunsOut : S → Request → S → Type 0)
     (old new : ConnectionState S) : Type 0 where
@@ -87,7 +87,8 @@ ServesTurn Step RunsOut last old (Some WriteFault) new =
     ⊎ ((status : ℕ) × Stops SendsPrefix (λ bytes left. IsBad bytes status) (refusal_text status) old new)
 ServesTurn Step RunsOut last old (Some Memory) new = (new.state ≡ old.state) ⊎ Breaks Step RunsOut old new
 
--- the effect of sending a text; `None` if all of it was sent, otherwise the end of the connection
+-- The effect of sending a text: `None` if all of it was sent, otherwise the end of the connection. Nothing is said here of what was sent if
+-- memory ran out; see `Sends500`.
 abbrev pub Writes : List ℕ → Option (List ℕ) → Option End → Option (List ℕ) → Type 0
 Writes text sent None sent_after = Sends sent text sent_after
 Writes text sent (Some WriteFault) sent_after = SendsPrefix sent text sent_after
@@ -105,14 +106,15 @@ Replied Step RunsOut request close before after sent (Some WriteFault) sent_afte
 Replied Step RunsOut request close before after sent (Some Memory) sent_after = Unreplied Step RunsOut before request after
 Replied Step RunsOut request close before after sent (Some end) sent_after = ⊥
 
--- the effect of refusing invalid bytes with this status: the refusal was sent, or a prefix of it if a write failed
+-- The effect of refusing bytes with this status: the refusal was sent, or a prefix of it if a write failed. Nothing is said here of what
+-- was sent if memory ran out; see `Sends500`.
 abbrev pub SendsRefusal : ℕ → Option (List ℕ) → End → Option (List ℕ) → Type 0
 SendsRefusal status sent (Refused reported) sent_after = (reported ≡ status) × Sends sent (refusal_text status) sent_after
 SendsRefusal status sent WriteFault sent_after = SendsPrefix sent (refusal_text status) sent_after
 SendsRefusal status sent Memory sent_after = ⊤
 SendsRefusal status sent end sent_after = ⊥
 
--- the 500 reply was sent after memory ran out, in full, or a prefix of it if the link failed
+-- after memory ran out, the 500 reply was sent in full, or a prefix of it and the link's fault count rose
 pub record Sends500 (sent : Option (List ℕ)) (faults : ℕ) (sent_after : Option (List ℕ)) (faults_after : ℕ) : Type 0 where
   pub part : List ℕ
   pub after : List ℕ

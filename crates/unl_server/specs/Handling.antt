@@ -1,4 +1,4 @@
--- The effect of handling one request. Each request gets one draw (a time and a random word) of a supply of draws.
+-- The effect of handling one request. Each request gets one draw (a time and a random word) from a supply of draws.
 use Rattle.std.specs.Prelude.{◌≡◌, ℕ, ◌+◌, List, Option}
 use Rattle.unl_base.specs.declared.draws.Draw.{Draw}
 use Rattle.unl_base.specs.Draws.{TakesDraw}
@@ -29,8 +29,8 @@ pub record HandlesRequest
   pub given : gives before.state request draw reply after.state
   pub counted : after.count ≡ before.count + 1
 
--- A draw was taken, and then memory ran out while the request was handled. It was not counted as answered. `out_of_memory` is the effect of
--- running out of memory on the handler's state.
+-- A draw was taken, and then memory ran out while the request was handled. The request was not counted as answered. `out_of_memory` is
+-- the effect of running out of memory on the handler's state.
 pub record RunsOutOfMemory
     {S : Type 0} (out_of_memory : S → Request → Draw → S → Type 0)
     (before : HandlerState S) (request : Request) (after : HandlerState S) : Type 0 where

@@ -1,12 +1,13 @@
 -- Serving the links (connections) that a door (a listener) hands out, one after another, if the bytes of the links are observable.
--- `LinkServed before coming bytes back after coming_after` is the effect of serving one link: `bytes` are the bytes to be read from it, and
--- `back` is the pair of the bytes it had sent and its fault count when it was returned to the door.
+-- `LinkServed before coming bytes back after coming_after` is the effect of serving one link: the server changes from `before` to `after`,
+-- and the coming draws from `coming` to `coming_after`. `bytes` are the bytes to be read from the link, and `back` is the pair of the bytes
+-- it had sent and its fault count when it was returned to the door.
 use Rattle.std.specs.Prelude.{◌≡◌, ℕ, ◌+◌, List, [], ◌∷◌, ◌++◌, length, Option, Some}
 use Rattle.unl_base.specs.Doors.{DoorState}
 use Rattle.unl_server.specs.Handling.{Coming}
 
--- Links with these bytes were served one after another, beginning with this server and these coming draws, and were returned with these
--- sent bytes and fault counts.
+-- Links with these bytes were served one after another, and were returned with these sent bytes and fault counts. This changed the server
+-- to `after`, and the coming draws to `coming_after`.
 abbrev pub AreServed :
     {S : Type 0} → (S → Coming → List ℕ → List ℕ × ℕ → S → Coming → Type 0) → S → Coming → List (List ℕ) → List (List ℕ × ℕ)
     → S → Coming → Type 0
@@ -38,7 +39,7 @@ linking server coming door = record {
 }
 
 -- The first `served` of `links` were handed out, served, and returned in order. Their sent bytes and fault counts were appended to
--- `returned`, the list of those of the links returned before.
+-- `returned`, which has the sent bytes and fault counts of the links that were returned earlier.
 pub record ServesLinks
     {S : Type 0} (LinkServed : S → Coming → List ℕ → List ℕ × ℕ → S → Coming → Type 0) (before after : Linking S)
     (served : ℕ) (links : List (List ℕ)) (returned : List (List ℕ × ℕ)) : Type 0 where

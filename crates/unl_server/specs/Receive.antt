@@ -1,4 +1,4 @@
--- Receiving from a link: the bytes that are read, and what is found in them (a request, invalid bytes, or the end).
+-- Receiving from a link: the bytes that are read, and what is found in them (a request, refused bytes, or the end).
 use Rattle.std.specs.Prelude.{◌≡◌, ◌≢◌, ℕ, ◌<◌, List, [], ◌++◌, length, Option, Some, None, ⊤}
 use Rattle.unl_base.specs.Streams.{Takes, HasEnded}
 use Rattle.http.specs.StatusCode.{IsStatusCode}
@@ -6,8 +6,8 @@ use Rattle.unl_http_api.specs.Requests.{BeginsWith, IsBad, IsUnfinished}
 use Rattle.unl_server.specs.declared.receive.Received.{Received}
 use Rattle.unl_server.specs.declared.receive.Received.TheVariants.{Request as Whole, Bad, Closed, CutOff, ReadFault, Memory}
 
--- What was found at the start of `bytes`: a request, after which `held` is left; invalid bytes with the status of their refusal; or bytes
--- without a whole request, after which the input ended or a read failed. `left` are the bytes that can still be read.
+-- What was found at the start of `bytes`: a request, after which `held` is left; bytes that are refused with this status; or no whole
+-- request, after which the input ended or a read failed. If memory ran out, nothing is said. `left` are the bytes that can still be read.
 abbrev pub IsNextItem : List ℕ → Option (List ℕ) → Received → List ℕ → Type 0
 IsNextItem bytes left (Whole request) held = BeginsWith bytes request held
 IsNextItem bytes left (Bad status) held = IsBad bytes status × IsStatusCode status
@@ -16,7 +16,7 @@ IsNextItem bytes left CutOff held = (bytes ≢ []) × IsUnfinished bytes × HasE
 IsNextItem bytes left ReadFault held = IsUnfinished bytes
 IsNextItem bytes left Memory held = ⊤
 
--- Bytes were read from the link and appended to those held, and then `found` was the next item in them.
+-- Bytes, perhaps none, were read from the link and appended to those held, and then `found` was the next item in all of these.
 pub record Receives
     (held : List ℕ) (left : Option (List ℕ)) (found : Received) (held_after : List ℕ)
     (left_after : Option (List ℕ)) : Type 0 where

@@ -1,4 +1,4 @@
--- Serving the links of a door, one after another. The coming draws are the random draws that the server will use for its next requests.
+-- Serving the links of a door, one after another. The coming draws (a time and a random word each) are those that the next requests take.
 -- `Serves before coming link link_after after coming_after` is the effect of serving one link: the server and the coming draws before,
 -- the link before and after, the server and the coming draws after.
 use Rattle.std.specs.Prelude.{◌≡◌, ℕ, zero, suc, Bool, Result, Ok, Err}
@@ -19,7 +19,7 @@ pub record ServerAndDoor (S : Type 0) : Type 0 where
 abbrev pub server_and_door : {S : Type 0} → S → Coming → DoorState → ServerAndDoor S
 server_and_door server coming door = record { server = server; coming = coming; door = door }
 
--- a link was handed out, served and returned
+-- a link was handed out, served and returned; `closed` says whether the door was closed once it had handed the link out
 pub record ServesDoorLink
     {S : Type 0} (Serves : S → Coming → LinkView → LinkView → S → Coming → Type 0) (before after : ServerAndDoor S) : Type 0 where
   pub link : LinkView

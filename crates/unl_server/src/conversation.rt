@@ -12,7 +12,7 @@ use unl_http_api::{End, Reader};
 
 /// Serves the requests of a connection until it ends, which is after [`MOST_REQUESTS`] requests at the latest. Each
 /// request gets a draw of its own (a time and a random word). Returns how many requests were answered, and why the
-/// connection ended.
+/// connection ended. A request counts as answered when its reply is computed, even if the reply can't be sent.
 pub fn serve_requests<A: RequestHandler, L: Link, R: Draws>(
     alloc: Global,
     state: &mut A::State,

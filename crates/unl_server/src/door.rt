@@ -15,12 +15,12 @@ pub trait Server {
     /// The precondition of `serve_link`, which also holds after it.
     ghost fits: { Self → Type 0 };
 
-    /// The relation between the server before and after any number of calls. It includes at least that the server still
+    /// A relation that holds between the server before and after any number of calls, such as that the server still
     /// holds the same references.
     ghost keeps: { Self → Self → Type 0 };
 
-    /// The effect of serving a link: it relates the server and the upcoming draws before, the link before and after,
-    /// and the server and the upcoming draws after.
+    /// The effect of serving a link: it relates the server and the coming draws before, the link before and after, and
+    /// the server and the coming draws after.
     ghost serves: { Self → Coming → LinkView → LinkView → Self → Coming → Type 0 };
 
     /// Serves a link, and then does the server's own work after each link, such as passing on the metrics that it
@@ -43,14 +43,14 @@ pub trait Server {
 /// The outcome of waiting for a link.
 #[derive(Clone, Copy, Debug, PartialEq, Eq)]
 pub(crate) enum LinkOutcome {
-    /// A link came, was served and was returned to the door.
+    /// A link was handed out, served and returned to the door.
     Served,
     /// The door is closed.
     Closed,
 }
 
-/// Serves the links of a door, one after another, and returns each to it, until the door is closed. Returns how many links
-/// were served. If a link fails, or memory runs out while it is served, only that link ends.
+/// Serves the links of a door, one after another, and returns each, until the door is closed. Returns how many links
+/// were served. If a link fails, or memory runs out while a link is served, only that link ends.
 ///
 /// # Errors
 /// `Failed`: the door could not hand out a link. The door increments its fault count.
@@ -81,7 +81,7 @@ pub fn serve_door<S: Server, D: Door, R: Draws, W: Wait>(
     wait_forever(rt)
 }
 
-/// Waits for the next link, serves it, and returns it to the door.
+/// Waits for the next link, serves it, and returns it to the door. Fails only if the door could not hand out a link.
 fn serve_next<S: Server, D: Door, R: Draws>(
     alloc: Global,
     server: &mut S,
@@ -129,7 +129,7 @@ fn serve_and_return<S: Server, D: Door, R: Draws>(
     door.give_back(link);
 }
 
-/// Never returns. It is reached after `u64::MAX` links, which no run of the program serves.
+/// Never returns. `serve_door` calls it after `u64::MAX` links, which no run of the program serves.
 fn wait_forever<T, W: Wait>(rt: &W) -> T
     ensures { ⊥ }
 {

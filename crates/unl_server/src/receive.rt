@@ -1,4 +1,5 @@
-//! Receives requests from a link: reads bytes until a request is complete, is invalid, or the input ends.
+//! Receives requests from a link: reads bytes until a request is complete or refused, the input ends, or a read or an
+//! allocation fails.
 ghost use Rattle.std.specs.Prelude.{◌≡◌, ◌<◌, ◌≤◌, ◌==◌, if◌then◌else◌, length};
 ghost use Rattle.unl_base.specs.Faults.{Rose};
 ghost use Rattle.unl_http_api.specs.Requests.{IsUnfinished};
@@ -17,9 +18,9 @@ pub(crate) const PIECE: usize = 16_384;
 pub(crate) enum Received {
     /// A complete request.
     Request(Request),
-    /// Invalid bytes. The reply has this status.
+    /// The received bytes are refused, with this status for the reply.
     Bad(u16),
-    /// The input ended, and no bytes were left.
+    /// The input ended, and nothing of a further request had arrived.
     Closed,
     /// The input ended inside a request.
     CutOff,
@@ -48,7 +49,8 @@ pub(crate) fn receive<L: Link>(
     }
 }
 
-/// Takes the next request. If it is incomplete, reads more bytes, and returns `None` if this succeeds.
+/// Takes the next request from the reader. If it is incomplete, reads more bytes once, and returns `None` if the reader
+/// got some.
 fn turn<L: Link>(
     alloc: Global,
     reader: &mut Reader,
@@ -69,7 +71,7 @@ fn turn<L: Link>(
     }
 }
 
-/// Reads more bytes of an incomplete request.
+/// Reads more bytes of an incomplete request into the reader. Returns `None` if the reader got some, otherwise why not.
 fn read_piece<L: Link>(reader: &mut Reader, link: &mut L, room: &mut [u8]) -> Option<Received>
     requires room { 0 < length room.old }
     requires unfinished { IsUnfinished reader.old }

@@ -10,11 +10,12 @@ use unl_base::Draw;
 use unl_documents::Memory;
 use unl_http_api::{Reply, Request};
 
-/// The maximum number of requests that are answered on one connection. The last reply closes it.
+/// The maximum number of requests that are answered on one connection. The last of their replies closes the connection.
+/// The number is chosen by this project.
 pub const MOST_REQUESTS: usize = 1000;
 
-/// Handles the requests of a connection: computes the reply to each, and records its effects (such as metrics) in a
-/// state.
+/// Handles the requests of a connection: computes the reply to each request, and records in a state what the request
+/// changes (such as metrics).
 pub trait RequestHandler {
     /// The state of the handler, with everything that it records and counts. Each request may change it.
     type State;
@@ -22,7 +23,7 @@ pub trait RequestHandler {
     /// The precondition of `answer`, on the number of requests answered before on the connection, and on the state.
     ghost fits: { ℕ → Self.State → Type 0 };
 
-    /// The relation between the states before and after any number of calls. It includes at least that the state still
+    /// A relation that holds between the states before and after any number of calls, such as that the state still
     /// holds the same references.
     ghost keeps: { Self.State → Self.State → Type 0 };
 
@@ -32,7 +33,7 @@ pub trait RequestHandler {
     /// The effect of running out of memory at a request: the state before, the request, its draw, and the state after.
     ghost out_of_memory: { Self.State → Request → Draw → Self.State → Type 0 };
 
-    /// Handles a request. `count` requests were answered on its connection before.
+    /// Computes the reply to a request. `count` requests were answered on its connection before.
     ///
     /// # Errors
     /// `Memory`: out of memory. The request then counts as not answered.

@@ -14,7 +14,8 @@ use unl_documents::{List, Memory};
 use unl_http_api::{End, Reader, Reply, Request, WriteRefusal, write_500, write_reply};
 
 /// Serves one request. Returns `None` if the whole reply was sent and the request did not ask to close the connection,
-/// otherwise why the connection ended. `last`: the reply closes the connection, since its limit of requests is reached.
+/// otherwise why the connection ended. `last`: this is the last request that the connection may serve, so the reply
+/// closes the connection.
 pub(crate) fn serve_request<A: RequestHandler, L: Link, R: Draws>(
     alloc: Global,
     reader: &mut Reader,
@@ -72,8 +73,9 @@ fn asked(close: bool) -> Option<End>
     if close { Some(End::Asked) } else { None }
 }
 
-/// Passes a request to the handler, counts it as answered, and sends the reply. Returns `None` if the whole reply was
-/// sent, otherwise why the connection ended.
+/// Passes a request to the handler, counts it as answered, and sends the reply. If the handler runs out of memory, a
+/// 500 reply is sent instead if possible, and the request is not counted. `close`: whether the reply closes the
+/// connection. Returns `None` if the whole reply was sent, otherwise why the connection ended.
 fn reply_to<A: RequestHandler, L: Link, R: Draws>(
     alloc: Global,
     state: &mut A::State,
@@ -105,7 +107,7 @@ fn reply_to<A: RequestHandler, L: Link, R: Draws>(
     send(alloc, &reply, close, link)
 }
 
-/// Refuses invalid bytes: sends a reply with this status, which closes the connection. Returns why the connection
+/// Refuses bytes: sends a reply with this status and no body, which closes the connection. Returns why the connection
 /// ended.
 fn refuse<L: Link>(alloc: Global, link: &mut L, status: u16) -> End
     requires { IsStatusCode status }
@@ -128,7 +130,8 @@ fn refuse<L: Link>(alloc: Global, link: &mut L, status: u16) -> End
     }
 }
 
-/// Sends a reply. Returns `None` if all of it was sent, otherwise why the connection ended.
+/// Sends a reply. `close`: whether the reply closes the connection. Returns `None` if all of the reply was sent,
+/// otherwise why the connection ended.
 fn send<L: Link>(alloc: Global, reply: &Reply, close: bool, link: &mut L) -> Option<End>
     requires { IsStatusCode reply.now.status }
     ensures writes { Writes (reply_text reply.now close) (L.sent link.old) result (L.sent link.new) }
@@ -145,7 +148,7 @@ fn send<L: Link>(alloc: Global, reply: &Reply, close: bool, link: &mut L) -> Opt
     }
 }
 
-/// Tries to send a 500 reply after memory ran out.
+/// Tries to send a 500 reply after memory ran out. Returns `End::Memory`, even if the write fails.
 fn send_500<L: Link>(link: &mut L) -> End
     ensures end { result ≡ End.Memory }
     ensures sends { Sends500 (L.sent link.old) (L.Source.faults link.old) (L.sent link.new) (L.Source.faults link.new) }
