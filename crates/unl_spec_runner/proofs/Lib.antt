@@ -1,4 +1,3 @@
 pub mod Counting
 pub mod NoFloats
 pub mod LineBytes
-pub mod Ends

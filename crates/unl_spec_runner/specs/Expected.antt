@@ -12,8 +12,7 @@ use Rattle.unl_spec_runner.specs.declared.expected.Expected.{Expected}
 use Rattle.unl_spec_runner.specs.declared.expected.Expected.TheVariants.{Result, Variant}
 use Rattle.unl_spec_runner.specs.declared.expected.ExpectedVariant.{ExpectedVariant}
 
--- The actual variant of an evaluation, for a test that expects the variant `v`. Whether the feature is on is included only if
--- `v` includes that too.
+-- The actual variant of an evaluation, for a test that expects the variant `v`. Its `feature_enabled` is `None` if that of `v` is.
 unfoldable pub variant_given : ExpectedVariant → Evaluation → ExpectedVariant
 variant_given v e = record {
   name = e.variant.name;

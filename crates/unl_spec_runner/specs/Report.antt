@@ -25,7 +25,7 @@ pub record Case : Type 0 where
   pub state : State
   pub test : Test
 
--- The moment of an evaluation: the time and the random word of this draw, and an empty host name.
+-- The moment of an evaluation: the time and the random word of the draw, and an empty host name.
 abbrev pub moment_of : Draw → Moment
 moment_of draw = record { now = draw.now; word = draw.word; host = [] }
 

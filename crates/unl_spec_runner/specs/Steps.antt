@@ -19,7 +19,7 @@ with_line line false r = record { text = r.text ++ line; passed = r.passed; fail
 unfoldable pub with_case : Draw → Case → Report → Report
 with_case draw c r = with_line (line_of (r.passed + r.failed + 1) c.test (given draw c)) (passes draw c) r
 
--- The report after the given tests of a state.
+-- The report after the given tests, evaluated in the given state.
 unfoldable pub with_tests : Draw → State → List Test → Report → Report
 with_tests draw state [] r = r
 with_tests draw state (t ∷ ts) r = with_tests draw state ts (with_case draw (record { state = state; test = t }) r)

@@ -1,5 +1,5 @@
--- How test files in the format of the Unleash client specification are parsed: the keys of each object in order, each with its
--- kind.
+-- How test files in the format of the Unleash client specification are parsed: the keys of each object, in the order in which they
+-- are read, with the kinds of their values.
 use Rattle.std.specs.Prelude.{ℕ, List, [], ◌∷◌, Bool, Option, Ok, ok_or}
 use Rattle.std.specs.Option.{option_or, option_map_or}
 use Rattle.serde_json.specs.Data.{Data}

@@ -18,8 +18,8 @@ use unl_input::{AnswerFault, InputAnswer, InputRefusal, answer_input};
 ///
 /// # Errors
 /// - `TooLarge` if the input has more than 16,777,216 bytes. Nothing is written.
-/// - `BadFile`, with the first fault of the input, if the input is not too large but is neither a test file nor an array of
-///   test files. Nothing is written.
+/// - `BadFile`, with the first fault of the input, if the input is not too large but is neither a test file nor an
+///   array of test files. Nothing is written.
 /// - `ReadFault` if the source failed. Nothing is written.
 /// - `WriteFault` if the sink failed. A prefix of the report was written.
 /// - `Memory` if memory ran out. Nothing is written.
@@ -29,8 +29,8 @@ pub fn check<S: Source, K: Sink>(
     sink: &mut K,
     draw: &Draw,
 ) -> Result<Summary, CheckFault>
-    // On success, the whole input was read, its report was sent, and the summary has the report's counts. If the input is
-    // refused, a read fails or memory runs out, nothing was sent. If a write fails, a prefix of the report was sent.
+    // On success, the whole input was read, its report was sent, and the summary has the report's counts. If the input
+    // is refused, a read fails or memory runs out, nothing was sent. If a write fails, a prefix of the report was sent.
     ensures checks { Checks result draw.entry.now (S.left source.old) (S.left source.new) (K.sent sink.old) (K.sent sink.new) }
     // `BadFile` never contains `Memory`: out of memory is not a fault of the input.
     ensures named { result ≢ Err (CheckFault.BadFile BadDocument.Memory) }

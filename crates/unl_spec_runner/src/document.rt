@@ -24,8 +24,8 @@ use unl_documents::parsing::read_json;
 use unl_documents::{BadDocument, Field, List, Payload, State, Text};
 use unl_input::context_in;
 
-/// The largest number of tests in each list of a file. No input can have more tests, because this is also the largest number
-/// of bytes in an input.
+/// The largest number of tests in each list of a file. No input can have more tests, because this is also the largest
+/// number of bytes in an input.
 const MOST_TESTS: usize = 16_777_216;
 
 /// A test: the evaluation of a feature for a context, with the expected result.
@@ -60,7 +60,8 @@ pub trait Expects {
     /// Parses the expected result of a test.
     ///
     /// # Errors
-    /// The first fault of the value at `expectedResult`, `Missing` if the key is absent or null, or `Memory` if memory ran out.
+    /// The first fault of the value at `expectedResult`, `Missing` if the key is absent or null, or `Memory` if memory
+    /// ran out.
     fn read_expected(alloc: Global, test: &Value) -> Result<Expected, BadDocument>
         ensures { Gives result (expected_in (view test.now)) };
 }
@@ -111,8 +112,8 @@ impl Document for ExpectedVariant {
     }
 }
 
-/// Parses whether the feature is expected to be on: the value at `feature_enabled`, or else at `featureEnabled`. Returns
-/// `Ok(None)` if there is no value at either key.
+/// Parses whether the feature is expected to be on: the value at `feature_enabled`, or else at `featureEnabled`.
+/// Returns `Ok(None)` if there is no value at either key.
 #[tactic(auto, unfolding(crate::specs::TestFile::feature_enabled_in))]
 fn feature_enabled_in(alloc: Global, value: &Value) -> Result<Option<bool>, BadDocument>
     ensures { Gives result (feature_enabled_in (view value.now)) }
@@ -155,7 +156,8 @@ impl<E: Expects> Item for TestOf<E> {
     }
 }
 
-/// Parses a test of the kind `E` from a JSON object. The description and the context are empty if their keys are absent or null.
+/// Parses a test of the kind `E` from a JSON object. The description and the context are empty if their keys are absent
+/// or null.
 #[tactic(auto, unfolding(crate::specs::TestFile::test_of))]
 fn read_test<E: Expects>(alloc: Global, value: &Value) -> Result<Test, BadDocument>
     ensures { Gives result (test_of E.expected_in (view value.now)) }
@@ -198,7 +200,8 @@ impl Document for TestFile {
     }
 }
 
-/// Parses a test file that is an item of an array. If an item isn't an object, the error is `NotJson`, as for a single file.
+/// Parses a test file that is an item of an array. If an item isn't an object, the error is `NotJson`, as for a single
+/// file.
 struct WholeFile;
 
 impl Kind for WholeFile {

@@ -27,15 +27,15 @@ pub struct ExpectedVariant {
     pub name: Text,
     /// Whether there is a variant.
     pub enabled: bool,
-    /// The variant's payload for the application, if it has one.
+    /// The variant's payload, if it has one.
     pub payload: Option<Payload>,
     /// Whether the feature is on, or `None` if the test does not compare that.
     pub feature_enabled: Option<bool>,
 }
 
 impl Expected {
-    /// Converts an evaluation to the actual result, in the form of this expected result: whether the feature is on, or its
-    /// variant. The only error is out of memory.
+    /// Converts an evaluation to the actual result, in the form of this expected result: whether the feature is on, or
+    /// its variant. The only error is out of memory.
     #[tactic(auto, unfolding(crate::specs::Expected::given_as))]
     pub fn given_as(&self, alloc: Global, evaluation: &Evaluation) -> Result<Expected, Memory>
         ensures { IfOk result (λ given. given ≡ given_as self.now evaluation.now) }
@@ -80,8 +80,8 @@ impl Expected {
 }
 
 impl ExpectedVariant {
-    /// Converts an evaluation to the actual variant. Whether the feature is on is included only if this expected variant
-    /// includes that too.
+    /// Converts an evaluation to the actual variant, for a test that expects this one. Its `feature_enabled` is `None`
+    /// if that of the expected variant is.
     #[tactic(auto, unfolding(crate::specs::Expected::variant_given))]
     fn given(&self, alloc: Global, evaluation: &Evaluation) -> Result<ExpectedVariant, Memory>
         ensures { IfOk result (λ given. given ≡ variant_given self.now evaluation.now) }

@@ -14,8 +14,8 @@ pub struct Summary {
 /// Why a check has no summary.
 #[derive(Debug, Drop, PartialEq, Error)]
 pub enum CheckFault {
-    /// The input is neither a test file nor an array of test files. Carries the first fault of the input, which is never
-    /// `BadDocument::Memory`.
+    /// The input is neither a test file nor an array of test files. Carries the first fault of the input, which is
+    /// never `BadDocument::Memory`.
     #[error("the file is not accepted")]
     BadFile(BadDocument),
     /// The input has more than 16,777,216 bytes.

@@ -24,7 +24,8 @@ impl Model for Report {
 
     ghost view = { λ r. record { text = r.printed.items; passed = r.passed; failed = r.failed } };
 
-    // Each test has a line of at least one byte, so there are at most as many tests as bytes, and the counts fit 64 bits.
+    // Each test has a line of at least one byte, so there are at most as many tests as bytes, and the counts fit in
+    // 64 bits.
     ghost invariant = { λ r. r.passed + r.failed ≤ length r.printed.items };
 }
 
@@ -65,8 +66,8 @@ impl Report {
         self.passed + self.failed + 1
     }
 
-    /// Appends the line of a test, which must not be empty, and counts the test as passed or failed. The only error is out
-    /// of memory.
+    /// Appends the line of a test, which must not be empty, and counts the test as passed or failed. The only error is
+    /// out of memory.
     pub fn add_line(&mut self, line: &[u8], passed: bool) -> Result<(), Memory>
         requires { 0 < length line.now }
         ensures { OnOk result (self.new ≡ with_line line.now passed self.old) }

@@ -28,7 +28,7 @@ pub fn report_files(alloc: Global, files: &[TestFile], draw: &Draw) -> Result<Re
     Ok(report)
 }
 
-/// Runs the tests of each file, in the order of the files, and adds them to the report.
+/// Runs the tests of each file, in the order of the files, and adds their results to the report.
 #[tactic(auto, unfolding(crate::specs::Steps::with_files))]
 fn run_files(
     alloc: Global,
@@ -45,7 +45,7 @@ fn run_files(
     Ok(())
 }
 
-/// Runs the tests of a file, then its variant tests.
+/// Runs the feature tests of a file, then its variant tests.
 #[tactic(auto, unfolding(crate::specs::Steps::with_file))]
 fn run_file(alloc: Global, report: &mut Report, file: &TestFile, draw: &Draw) -> Result<(), Memory>
     requires { IsValidFile file.now }
@@ -123,7 +123,8 @@ fn evaluated(alloc: Global, state: &State, test: &Test, draw: &Draw) -> Result<E
     }
 }
 
-/// Returns the evaluation of a feature that is off. It has the variant `disabled`, which means that there is no variant.
+/// Returns the evaluation of a feature that is off. It has the variant `disabled`, which means that there is no
+/// variant.
 fn off(alloc: Global) -> Result<Evaluation, Memory>
     ensures { IfOk result (λ e. e ≡ off) }
 {
