@@ -10,14 +10,15 @@ use unl_context::Context;
 pub(crate) enum RolloutId<'a> {
     /// The value of a field of the context.
     Field(&'a str),
-    /// The random id, which is formatted only if it is needed.
+    /// The random id. Its decimal digits are formatted only if they are needed.
     Random,
-    /// No id: the context lacks the field.
+    /// No id: the context lacks the selected field.
     Absent,
 }
 
 /// Returns the id that the parameter `stickiness` selects: `default` selects the userId, or else the sessionId, or else
-/// the random id. `random` selects the random id. Any other text is the name of a field of the context.
+/// the random id. `random` selects the random id. Any other text selects the field or property of the context with this
+/// name, and the result is `Absent` if the context lacks it.
 #[tactic(auto, unfolding(crate::specs::Strategy::id_by))]
 pub(crate) fn id_by<'a>(stickiness: &str, context: &'a Context) -> RolloutId<'a>
     ensures { (random : List ℕ) → id_with result random ≡ id_that stickiness.now context.now random }

@@ -1,11 +1,12 @@
-//! The parameters of a strategy.
+//! Lookups in the parameters of a strategy.
 ghost use Rattle.std.specs.Prelude.{◌≡◌, option_map};
 ghost use Rattle.unl_context.specs.Context.{filled};
 ghost use Rattle.unl_strategies.specs.Strategy.{parameter as value_in, parameter_or as value_or, value_at};
 
 use unl_documents::{List, Pair, Text};
 
-/// Returns the value of the parameter with the given key. An empty value counts as absent.
+/// Returns the value of the first parameter with the given key, or `None` if there is no such parameter or its value is
+/// empty.
 #[tactic(auto, unfolding(crate::specs::Strategy::parameter))]
 pub fn parameter<'a>(parameters: &'a List<Pair>, key: &str) -> Option<&'a str>
     ensures { option_map (λ text. text.now) result ≡ value_in key.now parameters.now }
@@ -13,7 +14,7 @@ pub fn parameter<'a>(parameters: &'a List<Pair>, key: &str) -> Option<&'a str>
     nonempty(value_of(key, parameters.as_slice()))
 }
 
-/// Returns the value of the parameter with the given key, or `other` if the value is absent or empty.
+/// Like [`parameter`], but returns `other` in place of `None`.
 #[tactic(auto, unfolding(crate::specs::Strategy::parameter_or))]
 pub fn parameter_or<'a>(parameters: &'a List<Pair>, key: &str, other: &'a str) -> &'a str
     ensures { result.now ≡ value_or other.now key.now parameters.now }

@@ -56,7 +56,7 @@ pub fn rule(
     }
 }
 
-/// Returns the random number of the strategy at an index of its feature.
+/// Returns the random number of the strategy at an index in its feature.
 fn random_at(feature: &Text, index: u32, moment: &Moment) -> u32
     ensures { result ≡ number_at feature.now index moment.entry.now }
 {
@@ -70,7 +70,7 @@ fn percent_at(parameters: &List<Pair>, key: &str) -> u32
     percent_of(parameter_or(parameters, key, ""))
 }
 
-/// Whether the userId is an item of the parameter `userIds`.
+/// Whether the context has a userId that is an item of the list in the parameter `userIds`.
 #[tactic(auto, unfolding(crate::specs::Strategy::is_user_listed))]
 fn is_user_listed(parameters: &List<Pair>, context: &Context) -> bool
     ensures { result ≡ user_listed parameters.now context.now }
@@ -81,7 +81,8 @@ fn is_user_listed(parameters: &List<Pair>, context: &Context) -> bool
     }
 }
 
-/// Whether the remoteAddress is an address in a block of the parameter `IPs`.
+/// Whether the context has a remoteAddress that is an address, and an address block of the list in the parameter `IPs`
+/// contains this address.
 #[tactic(auto, unfolding(crate::specs::Strategy::is_address_listed))]
 fn is_address_listed(parameters: &List<Pair>, context: &Context) -> bool
     ensures { result ≡ address_listed parameters.now context.now }
@@ -92,8 +93,8 @@ fn is_address_listed(parameters: &List<Pair>, context: &Context) -> bool
     }
 }
 
-/// Whether the percentage in the parameter `percentage` includes the value of a field of the context. The group is the
-/// parameter `groupId`, or empty if that is absent.
+/// Whether the percentage in the parameter `percentage` includes the value of a field of the context. False if the
+/// context lacks the field. The group is the parameter `groupId`, or empty if that is absent.
 #[tactic(auto, unfolding(crate::specs::Strategy::is_field_rolled_out))]
 fn is_field_rolled_out(name: &str, parameters: &List<Pair>, context: &Context) -> bool
     ensures { result ≡ field_rolled_out name.now parameters.now context.now }
@@ -115,8 +116,9 @@ fn is_randomly_rolled_out(parameters: &List<Pair>, random: u32) -> bool
     is_drawn(percent_at(parameters, "percentage"), random)
 }
 
-/// Whether the percentage in the parameter `rollout` includes the id that the parameter `stickiness` selects. The group
-/// is the parameter `groupId`, or the feature's name if that is absent.
+/// Whether the percentage in the parameter `rollout` includes the id that the parameter `stickiness` (`default` if
+/// absent or empty) selects. False if the context lacks the selected field. The group is the parameter `groupId`, or
+/// the feature's name if that is absent or empty. The only error is out of memory.
 #[tactic(auto, unfolding(crate::specs::Strategy::is_flexibly_rolled_out))]
 fn is_flexibly_rolled_out(
     alloc: Global,
@@ -140,7 +142,7 @@ fn is_flexibly_rolled_out(
 }
 
 /// Whether the percentage in the parameter `rollout` includes an id. The group is the parameter `groupId`, or the
-/// feature's name if that is absent.
+/// feature's name if that is absent or empty.
 fn is_id_rolled_out(parameters: &List<Pair>, feature: &Text, id: &str) -> bool
     ensures { result ≡ id_rolled_out parameters.now feature.now id.now }
 {

@@ -8,8 +8,8 @@ use unl_constraints::segment_holds;
 use unl_context::Context;
 use unl_documents::{List, Memory, Segment, Shared, segment_of};
 
-/// Whether the context satisfies all segments with the given ids. An id that is not in the list is not satisfied. `now`
-/// is in milliseconds since 1970.
+/// Whether the context satisfies, for each of the ids, the first segment with that id. False if any id has no segment
+/// in the list. `now` is in milliseconds since 1970. The only error is out of memory.
 pub(crate) fn all_met(
     alloc: Global,
     ids: &[u64],
@@ -27,7 +27,7 @@ pub(crate) fn all_met(
     Ok(true)
 }
 
-/// Whether the list has a segment with the id and the context satisfies it.
+/// Whether the list has a segment with the id, and the context satisfies the first such segment.
 #[tactic(auto, unfolding(crate::specs::Strategy::is_segment_met))]
 fn is_met(
     alloc: Global,

@@ -10,9 +10,10 @@ use unl_constraints::all_hold;
 use unl_context::Context;
 use unl_documents::{List, Memory, Segment, Shared, Strategy, Text};
 
-/// Whether a strategy is active: all of its constraints hold, each segment that it refers to is in the list and holds,
-/// and its own rule holds. `feature` is the name of the strategy's feature, and `index` is the strategy's index in the
-/// feature, from 0. If several segments have the same id, the first counts. The only error is out of memory.
+/// Whether a strategy is active: all of its constraints hold, each segment that it refers to is in `segments` and all
+/// constraints of that segment hold, and its own [`rule`] holds. `feature` is the name of the strategy's feature, and
+/// `index` is the strategy's index in the feature, from 0. If several segments have the same id, the first counts. The
+/// only error is out of memory.
 #[tactic(auto, unfolding(crate::specs::Strategy::is_active))]
 pub fn active(
     alloc: Global,
