@@ -1,4 +1,5 @@
-//! Tests of evaluation, documents and in-memory streams. They cover results of calls that no command prints.
+//! Tests of toggles, contexts, documents, batches, tokens, metrics reports, hashes, command-line arguments, draws, and
+//! a sink and a peer in memory. They cover results of calls that no command prints.
 mod base;
 mod compiled;
 mod context;

@@ -1,5 +1,5 @@
-//! Tests of public calls of the crates below, for results that no run of a program shows. They are in one crate, since
-//! each crate of tests has to read all libraries below it.
+//! Tests of public calls of this repository's libraries, for results that no run of a program shows. They are in one
+//! crate, since each further crate of tests would have to load the same libraries again.
 #![tactic(auto)]
 
 #[cfg(test)]

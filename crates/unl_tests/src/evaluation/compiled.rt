@@ -23,7 +23,7 @@ fn batch(alloc: Global) -> Option<Batch>
     read_batch_bytes(alloc, STATE.as_bytes(), None).ok()
 }
 
-/// Applies the batch to an empty place and compiles the version.
+/// Applies the batch to a place without a version, and compiles the version that results.
 fn snapshot(alloc: Global) -> Option<Snapshot> {
     let place = Place {
         version: None,
@@ -58,7 +58,7 @@ fn is_same(alloc: Global, snapshot: &Snapshot, context: &Context) -> Option<bool
     Some(text.as_slice() == text_of_value(alloc, snapshot, context)?.as_bytes())
 }
 
-/// Runs [`is_same`] with a context without fields.
+/// Runs [`is_same`] on the snapshot of the batch, with a context without fields.
 fn is_text_of_value(alloc: Global) -> Option<bool> {
     let context = Context::read_query(alloc, b"").ok()?;
     is_same(alloc, &snapshot(alloc)?, &context)

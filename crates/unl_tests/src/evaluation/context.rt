@@ -1,7 +1,7 @@
 //! Tests of the faults of contexts in request bodies.
 use unl_context::{BadContext, Context, Part};
 
-/// Bodies and their first fault. The program itself never prints which part is at fault.
+/// Request bodies, each with its first fault, or `None` if it has none. No command prints which part is at fault.
 const BODIES: [(&str, Option<BadContext>); 14] = [
     ("{", Some(BadContext::NotObject)),
     ("[]", Some(BadContext::NotObject)),

@@ -28,7 +28,7 @@ fn head_of(alloc: Global, epoch: u64) -> Result<FeedHead, Memory> {
     })
 }
 
-/// Writes a feed with the state and the epoch of the given one, and a copy of the head of `FEED`. Returns its text.
+/// Returns the text of a feed with the state and the epoch of `feed`. The rest is a copy of the head of `FEED`.
 fn text_of(alloc: Global, feed: &Feed) -> Result<String, Memory>
     requires { IsValidState feed.now.state }
 {
@@ -45,7 +45,8 @@ const FEED: &str = concat!(
     r#""version":2}"#,
 );
 
-/// Returns whether parsing the feed, copying it and writing the copy results in the same text.
+/// Returns whether parsing the feed, copying it and writing the copy results in the same text, and whether the copy has
+/// the feed's number.
 fn is_written_so(alloc: Global) -> Option<bool> {
     let feed = read_feed(alloc, FEED.as_bytes()).ok()?.copy(alloc).ok()?;
     let text = text_of(alloc, &feed).ok()?;

@@ -1,9 +1,9 @@
-//! Tests of the faults of tokens, of copies of books, and of requests for tokens.
+//! Tests of the faults of tokens, of copies of token books, and of requests that ask which tokens are valid.
 use std::alloc::Global;
 use unl_documents::TryClone;
 use unl_tokens::{BadToken, Book, Scope, read_request, write_request};
 
-/// Texts that are not tokens, each with its fault. The error of a book does not tell these faults apart.
+/// Texts that are not tokens, each with its fault. The error of a token book does not tell these faults apart.
 const NO_TOKENS: [(&str, BadToken); 8] = [
     ("ab", BadToken::NoColon),
     ("", BadToken::NoColon),
@@ -34,7 +34,7 @@ fn copy_is_same(alloc: Global) -> Option<bool> {
     Some(book.copy(alloc).ok()?.is_same(&book))
 }
 
-/// Returns whether parsing a request for tokens and writing it again results in the same text.
+/// Returns whether parsing a request that asks which tokens are valid, and writing it again, results in the same text.
 fn is_written_so(alloc: Global) -> Option<bool> {
     let asked = read_request(alloc, ASKED.as_bytes()).ok()?;
     let request = write_request(alloc, &asked).ok()?;

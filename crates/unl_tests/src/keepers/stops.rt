@@ -18,8 +18,8 @@ const NAMES: &str = "abcdefghij";
 /// An upper bound on the number of disk calls of a run.
 const MOST: u64 = 2000;
 
-/// Puts the features in order, and stops at the first put that is not acknowledged with the next version number.
-/// Returns the number of puts that were acknowledged with it.
+/// Puts the features in order, until a put is not acknowledged with the next version number. Returns the number of puts
+/// before that put, or of all if there is no such put.
 fn put_all<K: Keeper>(alloc: Global, up: &mut Upstream, keeper: &mut K) -> u64
     requires { (K.state keeper.old).opened ≡ true }
     ensures { (K.state keeper.new).opened ≡ true }
@@ -48,8 +48,8 @@ fn open<D: Disk + Drop>(
     }
 }
 
-/// Opens an upstream over the files and puts the features. Returns how many commands were acknowledged, and the files. No
-/// disk call is made on them after the last put.
+/// Opens an upstream over the files and puts the features. Returns how many commands were acknowledged, and the files.
+/// No disk call is made on the files after the last put.
 fn run<D: Disk + Drop>(alloc: Global, files: Files<D>) -> (u64, Files<D>) {
     let mut keeper = match open(alloc, files) {
         Ok(connection) => SqliteKeeper::new(connection),
@@ -107,8 +107,8 @@ fn stops_at(alloc: Global, calls: u64, loses: bool) -> Option<(u64, u64, bool)> 
 }
 
 /// Runs with 0, 1, 2 and so on allowed disk calls, and returns the first number that a run does not use up. Returns
-/// `None` if the test fails: a reopened upstream has fewer commands than were acknowledged, or at least two more, or
-/// after the last run it does not have all ten.
+/// `None` if the test fails, as when a reopened upstream has fewer commands than were acknowledged, or at least two
+/// more, or after the last run not all ten.
 fn calls_of_a_run(alloc: Global, loses: bool) -> Option<u64> {
     for calls in 0..MOST {
         let (done, found, stopped) = stops_at(alloc, calls, loses)?;

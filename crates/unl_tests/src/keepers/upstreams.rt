@@ -19,7 +19,7 @@ fn fresh(alloc: Global) -> Option<Upstream>
     Upstream::new(alloc, 0, "s", &environments, Book::new(alloc), 0).ok()
 }
 
-/// Creates an upstream and reopens it from a keeper.
+/// Creates an upstream and reopens it from a keeper. Returns `None` if reopening fails, or out of memory.
 pub(crate) fn opened<K: Keeper>(alloc: Global, keeper: &mut K) -> Option<Upstream>
     ensures { IfSome result (λ _. (K.state keeper.new).opened ≡ true) }
 {
@@ -59,8 +59,8 @@ pub(crate) fn put<K: Keeper>(
     }
 }
 
-/// Returns the version number of `dev`, and the names of its features, concatenated. Returns `None` if `dev` has no version,
-/// or out of memory.
+/// Returns the version number of `dev`, and the names of its features, concatenated; `None` if `dev` has no version, or
+/// out of memory.
 pub(crate) fn state_of_dev(alloc: Global, up: &Upstream) -> Option<(u64, String)> {
     let version = up.board().snapshot("dev")?.version();
     let mut names = String::new(alloc);

@@ -1,5 +1,5 @@
 //! Tests of an edge writer whose readers answer requests: in threads of their own while the writer publishes, and after
-//! they learned all that it published.
+//! a reader has learned the list of all installs that the writer published.
 ghost use Rattle.std.specs.Prelude.{All, IfOk, IfSome};
 ghost use Rattle.unl_edge_state.specs.Reading.{HasBegun, continuation_of};
 ghost use Rattle.unl_publication.specs.Looking.{SameOrigin};
@@ -22,8 +22,8 @@ const TOKENS: &[u8] = br#"{"tokens":[{"token":"*:dev.f","type":"frontend"}]}"#;
 /// The front of an answer (the number of installs that led to its board), and its HTTP status.
 type FrontAndStatus = (u64, u16);
 
-/// Creates a writer and two readers of a board with one empty slot: by `begin`, where the writer takes any install, or
-/// by `begin_orderly`, where each installed version must be the next one at its slot.
+/// Creates a writer and two readers of a board with one slot that has no snapshot: by `begin`, where the writer takes
+/// any install, or by `begin_orderly`, where each installed version must result from the slot's version by one batch.
 fn begun<'a, W: Wait>(
     rt: &'a W,
     alloc: Global,
@@ -39,7 +39,7 @@ fn begun<'a, W: Wait>(
     begin(rt, alloc, board, 2)
 }
 
-/// Publishes a token book.
+/// Publishes the token book of `TOKENS`.
 fn publish_book<W: Wait>(alloc: Global, writer: &mut EdgeWriter<'_, W>) -> Result<(), Memory>
     ensures { SameOrigin writer.new.known writer.old.known }
 {
@@ -56,7 +56,7 @@ fn publish_book<W: Wait>(alloc: Global, writer: &mut EdgeWriter<'_, W>) -> Resul
     }
 }
 
-/// Requests the toggles that a token may see.
+/// Requests the toggles with the token of `TOKENS`.
 fn ask(alloc: Global, reader: &mut EdgeReader) -> Result<FrontAndStatus, Memory> {
     let request = Request {
         method: Method::Get,
@@ -71,11 +71,11 @@ fn ask(alloc: Global, reader: &mut EdgeReader) -> Result<FrontAndStatus, Memory>
     Ok((front, answer.reply.status))
 }
 
-/// The status of an answer at front 0, where the token is unknown, and at each later one, where its environment has no
-/// state.
+/// The status of an answer at front 0, where the token is unknown, and at each later front, where the token is known
+/// and its environment's slot has no snapshot.
 const STATUSES: [u16; 2] = [403, 503];
 
-/// A job that publishes a token book 20 times.
+/// A job that publishes a token book 20 times. `good` says afterwards whether all succeeded and the front is 20.
 struct Publishing<'a, 'w, W: Wait> {
     writer: &'a mut EdgeWriter<'w, W>,
     alloc: Global,
@@ -100,7 +100,8 @@ impl<W: Wait> Job for Publishing<'_, '_, W> {
     fn cancel(&mut self) {}
 }
 
-/// A job that sends 200 requests. Each answer must be that of the board at its front, and the fronts must not fall.
+/// A job that sends 200 requests. `good` says afterwards whether each answer had the status of its front, and no front
+/// was below the one before it or above 20.
 #[derive(Drop)]
 struct Asking {
     reader: EdgeReader,
@@ -149,8 +150,8 @@ fn askers(alloc: Global, readers: Vec<EdgeReader>) -> Result<Vec<Asking>, Memory
     Ok(asking)
 }
 
-/// Publishes on this thread while each reader answers requests in its own thread. Returns whether every answer was
-/// right.
+/// Publishes on this thread while each reader answers requests in its own thread. Returns whether all publications
+/// succeeded and every answer was right.
 fn publish_concurrently<R: Threads + Wait>(
     rt: &R,
     alloc: Global,
@@ -176,15 +177,15 @@ fn publish_concurrently<R: Threads + Wait>(
     }
 }
 
-/// Whether two reports of the writer, both not learned yet, contain its list of installs.
+/// Whether two reports of the writer that exist at the same time both contain its list of installs.
 fn reports_lists<W: Wait>(writer: &mut EdgeWriter<'_, W>) -> bool {
     let first = writer.tell();
     let second = writer.tell();
     first.has_list() && second.has_list()
 }
 
-/// Publishes while two readers answer. Returns whether every answer was right and the writer could report its list
-/// twice.
+/// Publishes while two readers answer. Returns whether `reports_lists` returned true before, and `publish_concurrently`
+/// did then.
 fn readers_answer_while_it_publishes<R: Threads + Wait>(
     rt: &R,
     alloc: Global,
@@ -218,9 +219,9 @@ fn take_one<W: Wait>(
     readers.pop()
 }
 
-/// Publishes a token book. Then the writer makes three reports, but it has room for two lists only. The reader must not
-/// be able to learn all from the third report, and must be able to from the first; otherwise an error is returned.
-/// Returns the front and the status of the reader's next answer.
+/// Publishes a token book. Then the writer makes three reports, but it has room for two lists only. Returns the front
+/// and the status of the answer that the reader gives after it has learned from the first report. Returns an error if
+/// `learn_all` succeeds with the third report, which has no list, or fails with the first one, or out of memory.
 fn learn_and_ask<W: Wait>(
     alloc: Global,
     writer: &mut EdgeWriter<'_, W>,

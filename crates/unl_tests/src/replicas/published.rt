@@ -10,7 +10,7 @@ use std::sync::Wait;
 use std::test::Fail;
 use unl_publication::{Counted, Publisher, Reader, Ruled, Told, Writer, new_reader};
 
-/// A published number, and how many numbers were published so far (its front).
+/// A number that is published, and how many numbers were published so far (the front).
 #[derive(Drop)]
 struct Setting {
     number: u64,
@@ -82,7 +82,7 @@ fn look_once(reader: SettingReader, added: u64) -> (SettingReader, Look)
     }
 }
 
-/// Publishes a number, and returns what the writer reports then.
+/// Publishes a number, and returns the report that the writer makes then for one reader.
 fn publish_and_tell<W: Wait>(
     writer: &mut SettingPublisher<'_, W>,
     number: u64,
@@ -156,7 +156,7 @@ const LEARNED: [Look; 5] = [
     Some((5, 111)),
 ];
 
-/// A list is reported only if there is room for one more reader. Without the list a reader learns only the front.
+/// A list is reported only if there is room for a third reader. Without the list a reader learns only the front.
 #[test]
 fn a_reader_learns_again_and_again(rt: HostRuntime) -> Result<(), Fail> {
     for seats in 2..5 {

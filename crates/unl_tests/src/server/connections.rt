@@ -1,5 +1,5 @@
-//! Single connections: requests however their bytes are split, requests that are cut off, refused or at a limit, and how
-//! connections end.
+//! Tests of single connections: requests whose bytes are split across reads, requests that are cut off, refused or at a
+//! limit, and how connections end.
 ghost use Rattle.std.specs.Prelude.{◌<◌};
 
 use std::alloc::Global;
@@ -19,7 +19,8 @@ fn desk(alloc: Global) -> Option<OneDesk> {
     OneDesk::new(alloc, board).ok()
 }
 
-/// Serves a link. Returns the number of requests answered, and how the connection ended.
+/// Serves a link over a board without tokens. Returns the number of requests answered and how the connection ended, or
+/// `None` out of memory.
 fn serve(alloc: Global, link: &mut MemoryLink) -> Option<(usize, End)> {
     let mut desk = desk(alloc)?;
     let mut served = Served::new(alloc).ok()?;
@@ -29,8 +30,8 @@ fn serve(alloc: Global, link: &mut MemoryLink) -> Option<(usize, End)> {
     Some((served.len(), end))
 }
 
-/// Returns a link to read these bytes from, at most `most` of them at a time. The calls of the link (reads and writes)
-/// whose numbers, counted from 0, are in `failing` fail.
+/// Returns a link to read these bytes from, at most `most` of them at a time, with room for 10,000 bytes of replies.
+/// The link's reads and writes are numbered together from 0; those whose numbers are in `failing` fail.
 fn link_of(alloc: Global, bytes: &[u8], most: usize, failing: &[u64]) -> Option<MemoryLink>
     requires { 0 < most }
 {
@@ -47,7 +48,7 @@ fn has_outcome(alloc: Global, bytes: &[u8], most: usize, outcome: ConnectionCase
     fails_with(alloc, bytes, most, &[], outcome)
 }
 
-/// As `has_outcome`, for a link whose calls with the numbers in `failing` fail.
+/// As `has_outcome`, for a link whose reads and writes with the numbers in `failing` fail.
 fn fails_with(
     alloc: Global,
     bytes: &[u8],
@@ -75,7 +76,7 @@ const HEALTHY: ConnectionCase<'static> = (
     End::Closed,
 );
 
-/// A request whose body is the text of a health request, followed by a health request.
+/// Two requests: one whose body is the text of a health request, and then a health request.
 const REQUEST_IN_A_BODY: &[u8] = b"POST /no HTTP/1.1\r\nHost: x\r\nContent-Length: 52\r\n\r\n\
     GET /internal-backstage/health HTTP/1.1\r\nHost: x\r\n\r\n\
     GET /internal-backstage/health HTTP/1.1\r\nHost: x\r\n\r\n";
@@ -119,8 +120,8 @@ const BOTH_ANSWERED: &[u8] =
     b"HTTP/1.1 404 Not Found\r\nContent-Type: application/json\r\nContent-Length: 23\r\n\r\n{\"error\":\"NoSuchRoute\"}\
     HTTP/1.1 404 Not Found\r\nContent-Type: application/json\r\nContent-Length: 23\r\n\r\n{\"error\":\"NoSuchRoute\"}";
 
-/// The number of the call of the link that fails, and the outcome of the two requests then. Call 4 is never made, so
-/// that nothing fails in the last case.
+/// The number of the read or write that fails, and the outcome of `TWO_REQUESTS` then. The calls are a read, two writes
+/// and a read. There is no call 4, so nothing fails in the last case.
 const FAULTS: [(u64, ConnectionCase<'static>); 5] = [
     (0, (b"", 0, End::ReadFault)),
     (1, (b"", 1, End::WriteFault)),
@@ -195,8 +196,8 @@ fn ends(rt: HostRuntime) {
     }
 }
 
-/// Requests that are refused: the header fields after `Host` of a request with the body `abcde`, the rest of the
-/// refusal's status line after the version, and its status.
+/// Requests that are refused: the header fields after `Host` of a request with the body `abcde`, the refusal's status
+/// line without the version, and its status.
 const REFUSED: [(&str, &str, u16); 10] = [
     ("Transfer-Encoding: chunked", "411 Length Required", 411),
     (
@@ -230,8 +231,8 @@ const REFUSED: [(&str, &str, u16); 10] = [
     ),
 ];
 
-/// Serves a connection on which a request with these header fields and the body `abcde` is received. Returns whether it
-/// is refused with this status line and status.
+/// Serves a connection on which a request with these header fields and the body `abcde` is received. Returns whether
+/// the request is refused with this status line and status, or `None` out of memory.
 fn is_refused(alloc: Global, fields: &str, line: &str, status: u16) -> Option<bool> {
     let request = format!(in alloc; "POST /no HTTP/1.1\r\nHost: x\r\n{fields}\r\n\r\nabcde").ok()?;
     let reply = format!(in alloc;
@@ -249,8 +250,8 @@ fn refusals(rt: HostRuntime) {
     }
 }
 
-/// Returns the start of a health request, `length` bytes long: a header field of repeated letters fills it up to the
-/// bytes `end`.
+/// Returns the start of a health request, `length` bytes long. Its last header field is filled up with letters, and
+/// then the bytes `end` follow.
 fn head_of(alloc: Global, length: usize, end: &[u8]) -> Option<Vec<u8>> {
     let mut bytes = HEALTH.get(..HEALTH.len() - 2)?.to_vec(alloc).ok()?;
     bytes.extend_from_slice(b"X: ").ok()?;
@@ -259,7 +260,8 @@ fn head_of(alloc: Global, length: usize, end: &[u8]) -> Option<Vec<u8>> {
     Some(bytes)
 }
 
-/// The number of bytes received of a request's head, the last of these bytes, and the outcome.
+/// The number of bytes that are received of a request's head, the bytes at their end (none if the head is not
+/// complete), and the outcome. A head must end in the first 8,192 bytes.
 const HEADS: [(usize, &[u8], ConnectionCase<'static>); 4] = [
     (8_191, b"", CUT_OFF),
     (8_192, b"", LONG_HEAD),

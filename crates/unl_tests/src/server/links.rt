@@ -1,4 +1,4 @@
-//! A test of the queue of links, which is compared with its model: a queue for one thread.
+//! A test of the queue of links (`LinkQueue`), which is compared with its model `LinkState`, a queue for one thread.
 ghost use Rattle.std.specs.Prelude.{◌≡◌, ◌<◌};
 ghost use Rattle.crossbeam_queue.specs.Passes.{view};
 ghost use Rattle.unl_workers.specs.Passes.{IsPassOfQueue};
@@ -7,7 +7,7 @@ use std::alloc::Global;
 use std::sync::Wait;
 use unl_workers::{LinkQueue, LinkState, Popped, QueuePass};
 
-/// Puts a link into the queue and its model, unless they are full.
+/// Puts a link into the queue and its model. Does nothing if the model is full, since the queue's `put` would block.
 fn put_one<W: Wait>(
     rt: &W,
     queue: &LinkQueue<u64>,
@@ -28,7 +28,7 @@ fn put_one<W: Wait>(
     }
 }
 
-/// Puts `count` links into both queues: 0, 1, and so on.
+/// Puts the links 0, 1, and so on, `count` in all, into the queue and its model, each as `put_one` does.
 fn put_both<W: Wait>(
     rt: &W,
     queue: &LinkQueue<u64>,
@@ -48,7 +48,8 @@ fn put_both<W: Wait>(
     }
 }
 
-/// Takes the oldest link of both queues, unless that would block. Returns whether both returned the same.
+/// Takes the oldest link out of the queue and its model. Returns whether both returned the same. If the model is empty
+/// and not closed, the queue's `take` would block, so it is not called and the result is true.
 fn take_one<W: Wait>(
     rt: &W,
     queue: &LinkQueue<u64>,
@@ -68,7 +69,7 @@ fn take_one<W: Wait>(
     }
 }
 
-/// Takes from both queues `times` times. Returns whether both returned the same each time.
+/// Takes a link `times` times, as `take_one` does. Returns whether the queue and its model returned the same each time.
 fn take_both<W: Wait>(
     rt: &W,
     queue: &LinkQueue<u64>,
@@ -90,8 +91,8 @@ fn take_both<W: Wait>(
     true
 }
 
-/// Puts links into both queues and takes links out of them, also when they are full, empty or closed. Returns whether
-/// both always returned the same, or `None` if out of memory.
+/// Puts links into the queue and its model and takes links out, also when they are full, empty or closed. Returns
+/// whether both always returned the same, or `None` if out of memory.
 fn agree<W: Wait>(rt: &W, alloc: Global) -> Option<bool> {
     let Ok((queue, mut pass)) = LinkQueue::new(alloc) else {
         return None;

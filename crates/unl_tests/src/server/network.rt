@@ -85,9 +85,9 @@ impl OpenListener for NoListener {
     }
 }
 
-/// A network that follows a script, with its own clock and log. Connect number n succeeds with a stream whose reads
-/// have the results `replies[n]`; connects after the last of `replies` are refused. While `hangs` is set, a connect
-/// takes all of its time limit and fails.
+/// A network that follows a script, with its own clock and log. Connect number n, from 0, succeeds with a stream whose
+/// reads have the results `replies[n]`; connects after the last of `replies` are refused. While `hangs` is set, a
+/// connect takes all of its time limit and fails.
 #[derive(Drop)]
 struct ScriptedNet {
     seconds: Cell<u64>,
@@ -158,8 +158,8 @@ impl Eprint for ScriptedNet {
     }
 }
 
-/// Writes a request to a peer, and reads twice. Returns the results of the write and of the first read. Does nothing if
-/// the request is empty.
+/// Writes a request to a peer, and reads twice. Returns the results of the write and of the first read. If the request
+/// is empty, does nothing and returns two zeros.
 fn exchange<P: Peer>(
     peer: &mut P,
     request: &[u8],
@@ -196,7 +196,7 @@ const SUCCESS: &[Step] = &[Step::Signal, Step::Bytes("HTTP/1.1 200 OK\r\n")];
 
 const NOT_MODIFIED: &[Step] = &[Step::Bytes("HTTP/1.1 304 Not Modified\r\n")];
 
-/// The requests, each on a connection of its own.
+/// The requests that the test sends, each on a connection of its own.
 const REQUESTS: [&[u8]; 10] = [
     BOOK,
     DELTA,
@@ -210,7 +210,7 @@ const REQUESTS: [&[u8]; 10] = [
     DELTA,
 ];
 
-/// The replies to these requests.
+/// The results of the reads after each of these requests.
 const REPLIES: [&[Step]; 10] = [
     SUCCESS,
     FORBIDDEN,
@@ -224,7 +224,8 @@ const REPLIES: [&[Step]; 10] = [
     SUCCESS,
 ];
 
-/// The lines that the peer logs for these requests and replies, and for the connects after them.
+/// The lines that the peer logs for these requests and replies, and for the three connects after them: two that are
+/// refused and one that succeeds.
 const PEER_LINES: &str = "upstream 127.0.0.1:7: GET /api/client/delta: 403
 upstream 127.0.0.1:7: GET /api/client/delta: 200, but not taken
 upstream 127.0.0.1:7: GET /api/client/delta: 304

@@ -106,7 +106,7 @@ impl Link for TestLink {
     ghost writes_other_parts = { λ link. refl };
 }
 
-/// A door with as many links as a queue holds.
+/// A door with 64 links, as many as a queue holds.
 #[derive(Drop)]
 struct TestDoor {
     ports: Vec<u16>,
@@ -170,8 +170,8 @@ fn links_counted(slots: &[WorkerSlot<Counting, ListDraws>]) -> u64 {
     links
 }
 
-/// Serves the links of a door by two workers, which run one after another. Returns how accepting ended, the number of links that
-/// the workers counted, and the number of turns that the periodic task made.
+/// Serves the links of a door with two workers, which run one after another. Returns how accepting ended, the number of
+/// links that the workers counted, and the number of turns that the periodic task made. Returns `None` out of memory.
 fn serve<W: Threads + Wait + Sync>(rt: &W, alloc: Global) -> Option<(AcceptOutcome, u64, u64)> {
     let slots = vec![in alloc; slot(alloc), slot(alloc)].ok()?;
     let mut door = TestDoor {
