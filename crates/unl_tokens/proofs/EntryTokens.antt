@@ -1,4 +1,4 @@
--- The JSON tokens printed for entries and answers.
+-- The lexical tokens of the JSON that is printed for entries and answers.
 use Rattle.std.proofs.Common.{◌≡◌, [], ◌∷◌, ◌++◌, List, map, refl, ap, ◌∙◌, append_assoc}
 use Rattle.json.specs.Token.{begin_object, end_object, begin_array, end_array, key, string as string_token}
 use Rattle.unl_documents.specs.declared.field.Field.TheVariants as field

@@ -49,7 +49,7 @@ nothing_before : (texts : Texts) → others [] texts ≡ texts
 nothing_before [] = refl
 nothing_before (text ∷ texts) = ap (λ (ts : Texts). text ∷ ts) (nothing_before texts)
 
--- one more earlier text
+-- a text is not among the earlier ones and one more, exactly if it is neither that one nor among them
 not_or : (a b : Bool) → not (a || (b || false)) ≡ (not b && not a)
 not_or true true = refl
 not_or true false = refl
@@ -61,7 +61,7 @@ one_more text before texts =
     filter_same _ _ (λ (s : List ℕ). ap not (list_any-append (λ other. bytes_eq other s) before (text ∷ [])) ∙ not_or (is_one_of s before) (bytes_eq text s)) texts
     ∙ sym (filter_both (λ s. not (is_one_of s before)) (λ other. not (bytes_eq text other)) texts)
 
--- a text that is among the earlier ones already
+-- leaving out a text that is among the earlier ones changes nothing
 no_more : (text : List ℕ) (before texts : Texts) → is_one_of text before ≡ true → others before texts ≡ others before (apart text texts)
 no_more text before texts represents =
     filter_same _ _ (λ (s : List ℕ). each s) texts ∙ sym (filter_both (λ s. not (is_one_of s before)) (λ other. not (bytes_eq text other)) texts)

@@ -30,7 +30,7 @@ pub record IsTextIndex (tokens : List Token) (places : List ℕ) : Type 0 where
 abbrev pub is_below : List Token → List ℕ → ℕ → Bool
 is_below tokens text place = is_lt (slice_cmp nat_cmp (text_at tokens place) text)
 
--- the point of a text in the index: all lesser texts are before it, and no others
+-- `at` is the point of a text in the index: the entries before `at` are the positions of the tokens with lesser texts
 abbrev pub IsPointOf : List Token → List ℕ → List ℕ → ℕ → Type 0
 IsPointOf tokens text places at =
     IsPartitionPoint (λ place. is_below tokens text place ≡ true) (λ place. is_below tokens text place ≡ false) places at

@@ -1,4 +1,4 @@
--- Laws about several tokens with the same text in a book or in a request: each text counts once, in the position where it first occurs.
+-- Laws about texts that occur several times in a list of tokens or in a request: each text counts once, where it first occurs.
 use Rattle.std.specs.Prelude.{◌≡◌, ℕ, List, [], ◌∷◌, map, filter, filter_map, not, Option, Some, None, option_and_then, Ok, if◌then◌else◌}
 use Rattle.std.specs.Option.{option_or}
 use Rattle.std.specs.Str.{bytes_eq}
@@ -44,6 +44,6 @@ LatestAreRead = (value : Data) (entries : Items) (tokens book : List Token)
 abbrev pub KnownOnce : Type 0
 KnownOnce = (book : List Token) (asked : List (List ℕ)) → known book asked ≡ filter_map (λ text. token_of text book) (each_once asked)
 
--- if all tokens of a list have different texts, `gathered` returns the same list
+-- if all tokens of a list have different texts, `gathered` returns the list unchanged
 abbrev pub DifferentAreKept : Type 0
 DifferentAreKept = (tokens : List Token) → HaveDistinctTexts tokens → gathered tokens ≡ tokens

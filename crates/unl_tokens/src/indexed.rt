@@ -9,11 +9,12 @@ use std::alloc::Global;
 use std::marker::Model;
 use unl_documents::{List, Memory, TryClone};
 
-/// Up to this many tokens, a lookup compares the texts one by one: comparing two texts for equality is cheaper than
-/// comparing their order.
+/// With up to this many tokens, `Indexed::place_of` compares the texts one by one: comparing two texts for equality is
+/// cheaper than comparing their order.
 const FEW: usize = 24;
 
-/// Tokens, and their positions sorted by text for binary search. In contracts this is the list of the tokens.
+/// A list of tokens, and an index for binary search: their positions in the order of their texts. In contracts the
+/// value is the list of tokens.
 #[derive(Debug, Drop)]
 pub(crate) struct Indexed {
     tokens: List<Token>,
@@ -33,7 +34,7 @@ impl Model for Indexed {
 }
 
 impl Indexed {
-    /// No tokens. Allocates nothing.
+    /// Returns an empty list. Allocates nothing.
     pub(crate) fn new(alloc: Global) -> Indexed
         ensures { result ≡ [] }
     {
@@ -71,7 +72,7 @@ impl Indexed {
         self.tokens
     }
 
-    /// The position of the token with this text. Allocates nothing.
+    /// The position of the token with this text, or `None` if there is none. Allocates nothing.
     pub(crate) fn place_of(&self, text: &[u8]) -> Option<usize>
         ensures place { result ≡ place_of_text text.now self.now }
         ensures below { IfSome result (λ place. place < length self.now) }
@@ -83,7 +84,7 @@ impl Indexed {
         found
     }
 
-    /// Replaces the token with the same text, or appends the token if there is none.
+    /// Puts `token` in the place of the token with the same text, or appends `token` if no token has its text.
     #[tactic(auto, unfolding(crate::specs::Books::with_token))]
     pub(crate) fn with_token(self, token: Token) -> Result<Indexed, Memory>
         ensures { IfOk result (λ all. all ≡ with_token self token) }
@@ -129,7 +130,7 @@ fn search(tokens: &List<Token>, places: &List<usize>, text: &[u8]) -> (usize, Op
     (at, place_at(tokens, places, at, text))
 }
 
-/// The point in the index where the text's position is, or where it would be inserted.
+/// The point in the index where the position of the token with this text is, or where it would be inserted.
 fn point_of(tokens: &List<Token>, places: &List<usize>, text: &[u8]) -> usize
     requires { IsTextIndex tokens.now places.now }
     ensures point { IsPointOf tokens.now text.now places.now result }
@@ -161,7 +162,7 @@ fn text_at(tokens: &List<Token>, place: usize) -> &[u8]
     }
 }
 
-/// Replaces the token that has the same text.
+/// Puts `token` in the place of the token with the same text, which is at `place`.
 fn with_other(tokens: List<Token>, places: List<usize>, place: usize, token: Token) -> Indexed
     requires index { IsTextIndex tokens places }
     requires represents { place_of_text token.text tokens ≡ Some place }
@@ -172,7 +173,7 @@ fn with_other(tokens: List<Token>, places: List<usize>, place: usize, token: Tok
     Indexed { tokens, places }
 }
 
-/// Appends a token whose text is new.
+/// Appends a token whose text is new. `at` is the point of its text in the index.
 fn with_new(
     tokens: List<Token>,
     places: List<usize>,

@@ -3,7 +3,7 @@ use Rattle.unl_tokens.specs.Requests.{known, known_after, token_tokens}
 use Rattle.unl_tokens.proofs.Marks.{Marked}
 use Rattle.unl_tokens.proofs.validate.print_known.Given as goal
 
--- what is printed so far, followed by what is left to print, is the whole; the marks are those of the texts so far
+-- what is printed so far, followed by what is left to print, is the whole; a token is marked if its text was asked for so far
 abbrev pub invariant-loop-text : goal.invariant-loop-text
 invariant-loop-text l = record {
   before : l.out.before ≡ l.initial.out.before;
