@@ -61,7 +61,7 @@ pub silent_lines_end : (opened : KeptState) (left left_after old new : Option (L
     → TakesLines keeping (kept_lines_of opened) (Err line.Memory) left left_after old new → new ≡ old
 silent_lines_end opened left left_after old new takes = memory_is_silent keeping (kept_lines_of opened) left left_after old new silent takes
 
--- the same, of a result that is out of memory
+-- as above, for a result that is equal to `Err Memory`
 pub silent_at : (opened : KeptState) (result : Result (Unit {0}) LinesFault) (left left_after old new : Option (List ℕ)) → result ≡ Err line.Memory
     → TakesLines keeping (kept_lines_of opened) result left left_after old new → new ≡ old
 silent_at opened result left left_after old new is takes =

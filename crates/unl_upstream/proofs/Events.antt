@@ -75,9 +75,9 @@ remove_feature_event environment name v e is = decided (project_of name v.state.
         → (ok_or o NoSuchFeature >>= λ (project : List ℕ). number_after v.number >>= λ (n : ℕ). Ok (FeatureRemoved n name project)) ≡ Ok e
         → IsEventOf v (RemoveFeature environment name) e
     decided None none refused = err_is_no_ok NoSuchFeature e refused
-    decided (Some project) represents more =
+    decided (Some project) is_there more =
         let is_event : e ≡ FeatureRemoved (v.number + 1) name project = numbered v.number (λ n. FeatureRemoved n name project) e more in
-        subst (IsEventOf v (RemoveFeature environment name)) (sym is_event) (record { is = rw represents refl; change = refl; number = refl; is_true = represents })
+        subst (IsEventOf v (RemoveFeature environment name)) (sym is_event) (record { is = rw is_there refl; change = refl; number = refl; is_true = is_there })
 
 pub event_is_of : (command : Command) (v : EnvVersion) (e : Event) → event_of command v ≡ Ok e → IsEventOf v command e
 event_is_of (PutFeature environment feature) v e is = put_feature_event environment feature v e is

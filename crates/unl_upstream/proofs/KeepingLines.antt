@@ -39,7 +39,7 @@ pub silent : IsSilent keeping
 unfolding kept_line
 silent k kept_lines line taken is = read_silent kept_lines (command_in line) taken is
 
--- the lines of a whole input, all of which were accepted
+-- the outcome of a whole input whose lines were all accepted: nothing is printed
 pub all_taken : {D : Type 0} (taking : Taking D) (start last : D) (read : List ℕ) → IsSilent taking → (lines_outcome taking start read).ending ≡ done
     → (lines_outcome taking start read).desk ≡ last → lines_outcome taking start read ≡ record { text = []; ending = done; desk = last }
 all_taken {D} taking start last read silent ending leaves =

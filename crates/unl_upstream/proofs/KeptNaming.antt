@@ -15,7 +15,7 @@ use Rattle.unl_upstream.proofs.Served.{after_both}
 
 -- ---- one link
 
--- a link is described by the kept ones of these commands; if the keeper failed at none of them, no reply is 503 `KeeperFault`
+-- the kept commands of these attempts describe a link; if the keeper failed at none of these attempts, no reply is 503 `KeeperFault`
 record NamesWithoutFaults
     (before : KeptState) (coming : Coming) (bytes : List ℕ) (back : List ℕ × ℕ) (tried : List KeepAttempt) (taken : ℕ) (after : KeptState)
     (coming_after : Coming) : Type 0 where

@@ -29,7 +29,7 @@ use Rattle.unl_upstream.proofs.Statuses.{answered_without_fault, answered_status
 
 -- ---- from the handler's parts to its model
 
--- one answer, for a handler that is seen through `seen`
+-- one answer, by a handler whose model is what `seen` returns for its state
 abbrev pub AnswersOver : {S : Type 0} → (S → KeptState) → HandlerState S → Request → Reply → HandlerState S → Type 0
 AnswersOver seen = HandlesRequest (λ state request draw reply after. AnswersByKeeping (seen state) request draw reply (seen after))
 
@@ -161,7 +161,7 @@ replies_refused command state refusal (Ok reply) is other because = record {
   is = is;
 }
 
--- an error leaves an unchanged value unchanged
+-- on an error, an unchanged value equals itself
 pub same_still : {T E A : Type 0} (r : Result T E) (x : A) → OnErr r (x ≡ x)
 same_still (Ok y) x = tt
 same_still (Err e) x = refl

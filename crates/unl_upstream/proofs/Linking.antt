@@ -9,7 +9,7 @@ use Rattle.unl_server.specs.Links.{LinkView}
 use Rattle.unl_server.proofs.DoorLemmas.{Observable, hands_back, sent_observable}
 use Rattle.unl_upstream.specs.Served.{Changing, ServesAllLinksBy, LinkServedBy, RunsOut, ServesLinkBy, Steps}
 
--- serving a link, seen from the door: the bytes given, the bytes sent, and the faults
+-- if a link was served, what the door observes of it (the bytes received and sent, and the fault count) is as `LinkServedBy` states
 link_observable : {S : Type 0} (Step : Steps S) (RunsOutAtRequest : RunsOut S) (Changes : Changing S) → Observable (ServesLinkBy Step RunsOutAtRequest Changes) (LinkServedBy Step RunsOutAtRequest Changes)
 link_observable Step RunsOutAtRequest Changes before coming bytes link_after after coming_after served =
     let sent = sent_observable bytes link_after served.conversation in record {
@@ -31,7 +31,7 @@ link_observable Step RunsOutAtRequest Changes before coming bytes link_after aft
 
 -- ---- from the server's parts to its model
 
--- serving a link, for a server that is seen through `seen`
+-- `Serves`, for a server whose model is what `seen` returns
 abbrev pub ServesOver : {S T : Type 0} → (T → Coming → LinkView → LinkView → T → Coming → Type 0) → (S → T) → S → Coming → LinkView → LinkView → S → Coming → Type 0
 ServesOver Serves seen server coming link link_after after coming_after = Serves (seen server) coming link link_after (seen after) coming_after
 
@@ -56,7 +56,7 @@ door_links_seen Serves seen zero before after links = ap (server_seen seen) link
 door_links_seen Serves seen (suc n) before after links =
     (server_seen seen links.0, door_links_seen Serves seen n before links.0 links.1, link_seen Serves seen links.0 after links.2)
 
--- the links of a door were served; the conclusion depends on whether the door's links and the draws are observable
+-- the links of a door were served, each as `LinkServedBy` states if the door's links are observable
 pub door_links_served : {S T : Type 0} (Step : Steps T) (RunsOutAtRequest : RunsOut T) (Changes : Changing T) (seen : S → T) (result : Result ℕ Failed) (before after : ServerAndDoor S)
     → ServesDoor (ServesOver (ServesLinkBy Step RunsOutAtRequest Changes) seen) result before after
     → ServesAllLinksBy (LinkServedBy Step RunsOutAtRequest Changes) result (linking (seen before.server) before.coming before.door) (linking (seen after.server) after.coming after.door)

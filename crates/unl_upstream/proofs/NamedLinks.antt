@@ -12,12 +12,12 @@ use Rattle.unl_upstream.specs.Served.{draws_after}
 use Rattle.unl_upstream.proofs.Carrying.{both_behind, carries_all}
 use Rattle.unl_upstream.proofs.KeptNaming.{links_are_named}
 
--- no draw was used
+-- taking no draw changes nothing
 none_drawn : (coming : Coming) → coming ≡ draws_after 0 coming
 none_drawn None = refl
 none_drawn (Some list) = refl
 
--- the links of a door whose links are observable
+-- if a door's links are observable, `NamesUpstreamLinks` holds for them
 pub links_named : (opened kept last : KeptState) (commands : List Command) (before after : UpstreamFacing) (served : ℕ) (links : List (List ℕ))
     (returned : List (List ℕ × ℕ)) → HasKept kept.keeper → kept_commands kept.keeper ≡ option_map (λ kept. kept ++ commands) (kept_commands opened.keeper)
     → IsNamed opened.up opened.keeper.count commands kept

@@ -26,7 +26,7 @@ none_applied : (start up : UpstreamState) (texts : List (List ℕ)) → length t
 none_applied start up [] none leads = sym (ap (λ (o : Option UpstreamState). unwrap_or o start) leads)
 none_applied start up (text ∷ texts) none leads = absurd (omega (arith, none))
 
--- an upstream reopened on such a keeper is in its opening state, and no command is kept
+-- an upstream reopened on a keeper without rows is in its opening state, and no command is kept
 pub opens_empty : (start : UpstreamState) (made : KeeperState) (reopened : ℕ) (opened : KeptState) → made.rows ≡ Some [] → ReopensUpstream (kept_state start made) reopened opened
     → kept_lines_of opened ≡ record { up = start; count = 0; commands = Some [] }
 opens_empty start made reopened opened empty opens =
@@ -37,7 +37,7 @@ opens_empty start made reopened opened empty opens =
     let count : opened.keeper.count ≡ 0 = sym opens.reopens.counted ∙ none in
     λ i. record { up = up i; count = count i; commands = option_map commands_in (kept (count i) (rows i)) }
 
--- the same, if what the maker holds is observable
+-- as above, for a new keeper, if what its maker holds is observable
 pub opens_plain : (start : UpstreamState) (made : KeeperState) (held : Option (List (List ℕ))) → IsNewKeeper held made → (reopened : ℕ) (opened : KeptState)
     → ReopensUpstream (kept_state start made) reopened opened → IfSome held (λ _. kept_lines_of opened ≡ record { up = start; count = 0; commands = Some [] })
 opens_plain start made held is_new_keeper reopened opened opens = by_held held is_new_keeper.empty
@@ -47,7 +47,7 @@ opens_plain start made held is_new_keeper reopened opened opens = by_held held i
     by_held None empty = tt
     by_held (Some rows) empty = opens_empty start made reopened opened empty opens
 
--- no row of such a keeper is refused
+-- reopening a keeper without rows refuses no row
 pub no_row : (start : UpstreamState) (made : KeeperState) (place : ℕ) → made.rows ≡ Some [] → RefusesUpstreamRow (kept_state start made) place → ⊥
 no_row start made place empty refuses = by_fault refuses.fault refuses.of_row refuses.reopens
   where
@@ -64,7 +64,7 @@ no_row start made place empty refuses = by_fault refuses.fault refuses.of_row re
 
 -- ---- what the maker holds
 
--- so no command is kept yet
+-- no command is kept after reopening on a new keeper, if what its maker holds is observable
 pub none_kept : (start : UpstreamState) (opened : KeptState) (held : Option (List (List ℕ)))
     → IfSome held (λ _. kept_lines_of opened ≡ record { up = start; count = 0; commands = Some [] }) → IfSome held (λ _. kept_commands opened.keeper ≡ Some [])
 none_kept start opened None plain = tt
@@ -85,11 +85,11 @@ holds_kept last first (Some rows) held_after commands empty is keeps =
 
 -- ---- the faults
 
--- a count that rose from a later moment rose from an earlier one
+-- a count that rose since a later state also rose since an earlier one
 pub rose_before : (before middle after : ℕ) → before ≤ middle → Rose middle after → Rose before after
 rose_before before middle after later rose = omega (arith, later, rose)
 
--- a keeper that has never failed
+-- a fault count is 0 if a count above 0 implies `R` and `R` does not hold
 pub never_failed : {R : Type 0} (faults : ℕ) → (faults ≢ 0 → R) → ¬ R → faults ≡ 0
 never_failed zero rose none = refl
 never_failed (suc n) rose none = absurd (none (rose (λ is. cc)))

@@ -1,5 +1,5 @@
--- The reply of an upstream to a request. On the route of commands, the method, the token, the body and the command are checked in this
--- order, and the first check that fails decides the reply.
+-- The reply of an upstream without a keeper to a request. On the route of commands, the method, the token, the body and the command are
+-- checked in this order, and the first check that fails decides the reply.
 use Rattle.std.specs.Prelude.{ℕ, List, codes, Bool, false, if◌then◌else◌, Option, Some, None, Ok, Err}
 use Rattle.std.specs.Str.{bytes_eq}
 use Rattle.serde_json.specs.Data.{object, no_members}
@@ -65,22 +65,22 @@ command_or_reply_with up q None = Reply (refusal 401 (codes "NoToken"))
 command_or_reply_with up q (Some token) =
     if bytes_eq token up.secret then command_or_reply_in (command_in q.body) else Reply (refusal 403 (codes "UnknownToken"))
 
--- what a request on the route of commands asks for: it must be a POST
+-- what a request on the route of commands asks for: a command or a refusal; the request must be a POST
 abbrev pub command_or_reply_at : UpstreamState → Request → CommandOrReply
 command_or_reply_at up q = if is_post q.method then command_or_reply_with up q q.token else Reply (bad_method route.Commands)
 
--- the given route of a request's target is the route of commands; `None` means that the target has no known route
+-- whether the route of a request's target is the route of commands; `None` means that the target has no known route
 abbrev pub is_commands_route : Option Route → Bool
 is_commands_route None = false
 is_commands_route (Some route) = is_commands route
 
--- what a request asks for: on the route of commands a command, on all other routes the reply of `answer_of` from the
--- upstream's board; a usage report is answered but not stored
+-- what a request asks for: on the route of commands a command or a refusal, on all other routes the reply of `answer_of` from the
+-- upstream's board; a report of metrics is answered but not stored
 unfoldable pub command_or_reply_of : UpstreamState → Request → Draw → CommandOrReply
 command_or_reply_of up q draw =
     if is_commands_route (route_of q.target) then command_or_reply_at up q else Reply (answer_of up.board q draw).reply
 
--- if it is a command, its feature or segment is within the limits
+-- if a request asks for a command, the command's feature or segment is within the limits
 abbrev pub IsValidCommandOrReply : CommandOrReply → Type 0
 IsValidCommandOrReply (Execute command) = IsValidCommand command
 IsValidCommandOrReply (Reply reply) = Unit {0}

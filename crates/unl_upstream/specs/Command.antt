@@ -1,4 +1,5 @@
--- Commands, and how they are read: each command's keys in order, each with its kind. The forms are chosen by this project.
+-- Commands, and how they are read: the keys of a command in order, each with the kind of its value. These JSON forms are chosen by this
+-- project.
 use Rattle.std.specs.Prelude.{ℕ, List, codes, Ok, Err, ok_or, if◌then◌else◌}
 use Rattle.std.specs.Str.{bytes_eq}
 use Rattle.serde_json.specs.Data.{Data}
@@ -12,14 +13,14 @@ use Rattle.unl_documents.specs.Valid.{IsValidFeature, IsValidSegment}
 use Rattle.unl_upstream.specs.declared.command.Command.{Command}
 use Rattle.unl_upstream.specs.declared.command.Command.TheVariants.{PutFeature, RemoveFeature, PutSegment, RemoveSegment}
 
--- the environment of a command
+-- the name of the environment that a command changes
 abbrev pub environment_of : Command → List ℕ
 environment_of (PutFeature environment feature) = environment
 environment_of (RemoveFeature environment name) = environment
 environment_of (PutSegment environment segment) = environment
 environment_of (RemoveSegment environment id) = environment
 
--- the feature or segment in the command, if it has one, is within the limits
+-- the feature or segment in the command, if it has one, is within the limits of documents
 abbrev pub IsValidCommand : Command → Type 0
 IsValidCommand (PutFeature environment feature) = IsValidFeature feature
 IsValidCommand (RemoveFeature environment name) = Unit {0}
@@ -56,7 +57,7 @@ remove_segment_of value = do
   id ← required any_whole field.Id value
   Ok (RemoveSegment environment id)
 
--- reads the command whose `command` key has the value `word`
+-- reads the command whose `command` key has the value `word`; any other word is a `WrongKind` fault
 unfoldable pub command_by : List ℕ → Data → Reading Command
 command_by word value =
     if bytes_eq word (codes "put-feature") then put_feature_of value else (
@@ -71,7 +72,7 @@ command_of value = do
   word ← required any_text field.Command value
   command_by word value
 
--- reads a command from the JSON bytes of a request body, of a kept row, or of a line of input
+-- reads a command from the JSON bytes of a request body, of a kept row, or of a line of input; `NotJson` if they are not a JSON object
 unfoldable pub command_in : List ℕ → Reading Command
 command_in bytes = do
   value ← ok_or (json_of bytes) NotJson

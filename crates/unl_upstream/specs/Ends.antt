@@ -10,11 +10,11 @@ use Rattle.unl_upstream.specs.declared.ends.UpstreamEnd.TheVariants.{OutOfMemory
 
 -- ---- the printed lines
 
--- the line printed once the door is closed
+-- the line printed once the door is closed: how many links were served
 abbrev pub connections_line : ℕ → List ℕ
 connections_line served = codes "connections " ++ (decimal served ++ codes "\n")
 
--- the line printed if reopening fails because of the keeper's row at `place`
+-- the line printed if reopening fails because of the keeper's row at `place`, counted from 1
 abbrev pub row_line : ℕ → List ℕ
 row_line place = codes "refused: row " ++ (decimal place ++ codes "\n")
 
@@ -26,8 +26,8 @@ line_end (Err say.Memory) = OutOfMemory
 
 -- ---- the causes
 
--- If the end reports a fault of an endpoint, the statement about that endpoint holds: `read` for the input, `write` for the output,
--- `door` for serving links, `keep` for the keeper. Any other end requires nothing.
+-- If the end reports a fault, the statement about what failed holds: `read` for the input, `write` for the output, `door` for serving
+-- links, `keep` for the keeper. Any other end requires nothing.
 abbrev pub EndCaused : UpstreamEnd → Type 0 → Type 0 → Type 0 → Type 0 → Type 0
 EndCaused NoMemory read write door keep = ⊤
 EndCaused KeeperFault read write door keep = keep

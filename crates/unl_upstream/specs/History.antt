@@ -44,14 +44,15 @@ for_environment environment commands = filter (λ command. same_text (environmen
 
 -- ---- their history
 
--- the event of a command, with the number `n`; the event of a removed feature has the project that the feature has in `s`
+-- the event of a command, with the number `n`; the event of a removed feature has the project that the feature has in `s`, or an empty one
+-- if `s` has no such feature
 abbrev pub event_at : ℕ → State → Command → Event
 event_at n s (PutFeature environment feature) = FeatureUpdated n feature
 event_at n s (RemoveFeature environment name) = FeatureRemoved n name (unwrap_or (project_of name s.features) [])
 event_at n s (PutSegment environment segment) = SegmentUpdated n segment
 event_at n s (RemoveSegment environment id) = SegmentRemoved n id
 
--- the events of commands in order, numbered from n + 1 on
+-- the events of commands in order, numbered from n + 1 on; `s` is the state before the first one
 abbrev pub events_from : ℕ → State → List Command → List Event
 events_from n s [] = []
 events_from n s (command ∷ commands) = event_at (n + 1) s command ∷ events_from (n + 1) (step (event_at (n + 1) s command) s) commands
@@ -60,7 +61,7 @@ events_from n s (command ∷ commands) = event_at (n + 1) s command ∷ events_f
 abbrev pub history_of : List Command → List Event
 history_of commands = events_from 0 empty_state commands
 
--- the version is of this epoch, represents the history of these commands, and its number is their count
+-- the version has this epoch, it represents the history of these commands, and its number is their count
 pub record IsHistoryOf (epoch : ℕ) (commands : List Command) (v : EnvVersion) : Type 0 where
   pub era : v.epoch ≡ epoch
   pub represents : Represents (history_of commands) everything v
@@ -68,7 +69,7 @@ pub record IsHistoryOf (epoch : ℕ) (commands : List Command) (v : EnvVersion) 
 
 -- ---- what an upstream's versions represent
 
--- each environment's version represents the history of the commands for that environment
+-- each environment's version, if there is one, has this epoch and represents the whole history of the commands for that environment
 abbrev pub AreHistories : ℕ → List Command → UpstreamState → Type 0
 AreHistories epoch commands up = (environment : List ℕ) (v : EnvVersion) → snapshot_in environment up.board.slots ≡ Some v
     → IsHistoryOf epoch (for_environment environment commands) v

@@ -38,7 +38,7 @@ commands_in texts = filter_map (λ text. if_read (command_in text)) texts
 abbrev pub kept_commands : KeeperState → Option (List Command)
 kept_commands keeper = option_map commands_in (kept_rows keeper)
 
--- Each text is read as a command. These are all accepted when applied in order to `opening`, which results in `up`.
+-- Each text is that of a command. These commands are all accepted when applied in order to `opening`, and `up` is the result.
 pub record ResultIn (opening : UpstreamState) (texts : List (List ℕ)) (up : UpstreamState) : Type 0 where
   pub spelled : map command_in texts ≡ map Ok (commands_in texts)
   pub all_accepted : accepted (commands_in texts) opening ≡ commands_in texts
@@ -54,7 +54,7 @@ IsAfterKept opening state = IfSome (kept_rows state.keeper) (λ texts. ResultIn 
 abbrev pub most_rows : ℕ
 most_rows = 10000000
 
--- The result of a command, for a keeper with `count` rows: if the command is accepted but the keeper is full, the result is
+-- The result of a command, for a keeper with `count` kept rows: if the command is accepted but the keeper is full, the result is
 -- `KeeperFull`.
 abbrev pub with_room : {T : Type 0} → ℕ → CommandResult T → Result T KeepCommandRefusal
 with_room count (Ok x) = if nat_lt count most_rows then Ok x else Err (KeeperFull count)
@@ -76,23 +76,23 @@ pub record Publishes (ready : Prepared) (text : List ℕ) (before : KeptState) (
   pub up : after.up ≡ committed ready before.up
   pub row : IsWritten text before.keeper after.keeper
 
--- the put of a text was refused, and nothing was published
+-- the put of a text failed, and nothing was published
 pub record FailsToPut (text : List ℕ) (before : KeptState) (refusal : KeepRefusal) (after : KeptState) : Type 0 where
   pub up : after.up ≡ before.up
   pub row : PutsRow text before.keeper (Err refusal) after.keeper
 
--- the result of storing a text and publishing its command
+-- the effect of storing a text and publishing its command, by the result
 abbrev pub Puts : Prepared → List ℕ → KeptState → Result ℕ KeepRefusal → KeptState → Type 0
 Puts ready text before (Ok number) after = Publishes ready text before number after
 Puts ready text before (Err refusal) after = FailsToPut text before refusal after
 
--- the command was accepted, and its text is the last kept row
+-- the command was accepted and published with this new version number, and its text is the last kept row
 pub record Acknowledges (command : Command) (before : KeptState) (number : ℕ) (after : KeptState) : Type 0 where
   pub obeyed : keepable command before ≡ Ok (record { up = after.up; number = number })
   pub spelled : command_in (command_text command) ≡ Ok command
   pub row : IsWritten (command_text command) before.keeper after.keeper
 
--- the command was accepted, but the put failed
+-- the command was accepted and the keeper had room, but the put failed, so the upstream is unchanged
 pub record FailsToKeep (command : Command) (before after : KeptState) : Type 0 where
   pub obeyed : IsOk (keepable command before)
   pub spelled : command_in (command_text command) ≡ Ok command
@@ -104,7 +104,7 @@ pub record Refuses (command : Command) (before : KeptState) (refusal : KeepComma
   pub cause : keepable command before ≡ Err refusal
   pub same : after ≡ before
 
--- the result of keeping a command; running out of memory changes nothing
+-- the effect of an attempt to keep a command, by its result; running out of memory changes nothing
 abbrev pub KeepsCommand : Command → KeptState → Result ℕ KeepCommandRefusal → KeptState → Type 0
 KeepsCommand command before (Ok number) after = Acknowledges command before number after
 KeepsCommand command before (Err NoSuchEnvironment) after = Refuses command before NoSuchEnvironment after
@@ -133,7 +133,7 @@ abbrev pub if_kept : Command → Result ℕ KeepCommandRefusal → List Command 
 if_kept command (Ok number) others = command ∷ others
 if_kept command (Err refusal) others = others
 
--- the commands that were acknowledged
+-- the commands of the attempts that succeeded, in order
 abbrev pub acknowledged : List KeepAttempt → List Command
 acknowledged [] = []
 acknowledged (one ∷ others) = if_kept one.command one.result (acknowledged others)
@@ -154,7 +154,7 @@ abbrev pub faults_among : List KeepAttempt → ℕ
 faults_among [] = 0
 faults_among (one ∷ others) = keeper_faults one.result + faults_among others
 
--- the commands whose put failed since the last successful put, after one more attempt
+-- the commands whose put failed since the last successful put, after one more attempt; `failed` are those before the attempt
 abbrev pub failed_by : List Command → Command → Result ℕ KeepCommandRefusal → List Command
 failed_by failed command (Ok number) = []
 failed_by failed command (Err NoSuchEnvironment) = failed
@@ -194,7 +194,8 @@ AreLeft up failed [] = ⊤
 AreLeft up failed (text ∷ []) = IsLeft up failed text
 AreLeft up failed (text ∷ other ∷ texts) = ⊥
 
--- at most one row follows the kept ones: that of a command that the upstream accepts and whose put failed
+-- if the rows are observable, at most one follows the kept ones: that of a command that the upstream accepts and that is one of the failed
+-- ones
 abbrev pub LeavesOne : KeptState → List Command → Type 0
 LeavesOne state failed = IfSome (past_rows state.keeper) (AreLeft state.up failed)
 
@@ -236,7 +237,7 @@ pub record AttemptsPreserve (before after : KeptState) : Type 0 where
   pub some : SomeAttempts before after
   pub carries : Carries some.tried before after
 
--- any attempts to keep commands, with any faults of the keeper, preserve the properties in `Carries`
+-- any attempts to keep commands, with any faults of a keeper that has its kept rows (`HasKept`), preserve the properties in `Carries`
 abbrev pub KeepingCarries : Type 0
 KeepingCarries =
     (tried : List KeepAttempt) (before after : KeptState) → HasKept before.keeper → AttemptsInOrder tried before after

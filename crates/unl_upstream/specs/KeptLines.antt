@@ -13,14 +13,14 @@ use Rattle.unl_upstream.specs.declared.refusal.KeepCommandRefusal.{KeepCommandRe
 use Rattle.unl_upstream.specs.declared.refusal.KeepCommandRefusal.TheVariants.{NoSuchEnvironment, NoSuchFeature}
 use Rattle.unl_upstream.specs.declared.refusal.KeepCommandRefusal.TheVariants.{NoSuchSegment, TooMany, KeeperFull, KeeperFault, Memory}
 
--- the state between two lines: the upstream, the number of its keeper's rows, and the commands in the rows, if contracts can observe
--- them
+-- the state between two lines: the upstream, the number of rows that its keeper has kept, and the commands in these rows, if they are
+-- observable
 pub record KeptLines : Type 0 where
   pub up : UpstreamState
   pub count : ℕ
   pub commands : Option (List Command)
 
--- this state of an upstream and its keeper
+-- the upstream of this state, the number of kept rows, and the commands in them
 abbrev pub kept_lines_of : KeptState → KeptLines
 kept_lines_of state = record { up = state.up; count = state.keeper.count; commands = kept_commands state.keeper }
 
@@ -34,7 +34,7 @@ refusal_name (KeeperFull n) = codes "KeeperFull"
 refusal_name KeeperFault = []
 refusal_name Memory = []
 
--- one more command was accepted and is kept
+-- the state after one more command was accepted and kept
 abbrev pub with_command : Command → AppliedCommand → KeptLines → KeptLines
 with_command command obeyed kept_lines = record {
   up = obeyed.up;
@@ -42,7 +42,7 @@ with_command command obeyed kept_lines = record {
   commands = option_map (λ commands. commands ++ command ∷ []) kept_lines.commands;
 }
 
--- a command that is kept prints nothing
+-- the result of a line, from the result of keeping its command: a kept command prints nothing, a refused one gives the refusal's name
 abbrev pub kept_as : Command → KeptLines → Result AppliedCommand KeepCommandRefusal → LineResult KeptLines
 kept_as command kept_lines (Ok obeyed) = Ok (record { text = []; desk = with_command command obeyed kept_lines })
 kept_as command kept_lines (Err refusal) = Err (refusal_name refusal)
@@ -51,7 +51,7 @@ kept_as command kept_lines (Err refusal) = Err (refusal_name refusal)
 abbrev pub kept_one : Command → KeptLines → LineResult KeptLines
 kept_one command kept_lines = kept_as command kept_lines (with_room kept_lines.count (apply_command command kept_lines.up))
 
--- the command of a line is kept, if it can be read
+-- the command of a line is kept; if the line can't be read as a command, the result is the text of the fault
 abbrev pub kept_by : KeptLines → Reading Command → LineResult KeptLines
 kept_by kept_lines (Ok command) = kept_one command kept_lines
 kept_by kept_lines (Err fault) = Err (fault_text fault)

@@ -43,7 +43,7 @@ KeptLinking = Linking KeptState
 abbrev pub ServesKeptLinks : KeptLinking → KeptLinking → ℕ → Type 0
 ServesKeptLinks = HandsBack LinkServed
 
--- on success the returned number of links were served; if the door failed, some number of them
+-- on success the returned number of links were served; if the door failed, some number of links were
 abbrev pub ServesAllKeptLinks : Result ℕ Failed → KeptLinking → KeptLinking → Type 0
 ServesAllKeptLinks = ServesAllLinksBy LinkServed
 
@@ -55,9 +55,9 @@ pub record IsNamed (start : UpstreamState) (reopened : ℕ) (commands : List Com
   pub up : state.up ≡ after_commands commands start
   pub count : state.keeper.count ≡ reopened + length commands
 
--- A link was served. `requests` are the answered requests, which are the first ones in `bytes`. `commands` are the commands of
--- these requests that were accepted and kept. One draw was taken for each answered request, and perhaps one more if memory ran
--- out.
+-- A link was served, on which `bytes` were received; `back` is the bytes sent on it and its fault count. `requests` are the answered
+-- requests, which are the first ones in `bytes`. `commands` are the commands of these requests that were accepted and kept. One draw was
+-- taken for each answered request, and perhaps one more if memory ran out.
 pub record LinkEffect
     (before : KeptState) (coming : Coming) (bytes : List ℕ) (back : List ℕ × ℕ) (commands : List Command) (taken : ℕ)
     (after : KeptState) (coming_after : Coming) : Type 0 where
@@ -72,8 +72,8 @@ pub record LinkEffect
   pub gives : commands ≡ acknowledged (tried_in 0 (kept_serving_state before 0 coming) requests text reached answered)
   pub takes : (taken ≡ served.count) ⊎ ((served.end ≡ Memory) × (taken ≡ served.count + 1))
 
--- Links were served one after another. Before the first, `commands` were kept since `start`, and `drawn` draws were taken; after the last,
--- these are `commands_after` and `drawn_after`. Each link adds its kept commands and its draws.
+-- Links were served one after another. Before the first link, `commands` were kept since `start`, and `drawn` of the draws in `coming` were
+-- taken; after the last link, these are `commands_after` and `drawn_after`. Each link adds its kept commands and its draws.
 abbrev pub LinkedByNames :
     UpstreamState → ℕ → Coming → List Command → ℕ → KeptState → List (List ℕ) → List (List ℕ × ℕ) → List Command → ℕ → KeptState → Type 0
 LinkedByNames start reopened coming commands drawn state [] [] commands_after drawn_after after =

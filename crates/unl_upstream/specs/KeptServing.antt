@@ -38,7 +38,7 @@ pub record RepliesTo (command : Command) (before : KeptState) (reply : Reply) (a
   pub found : result ≢ Err Memory
   pub is : reply ≡ kept_reply result
 
--- the reply to a request that gives this command, or none
+-- the reply to a request that gives this command, or none; without a command, nothing changes
 abbrev pub RepliesByCommand : Option Command → KeptState → Request → Draw → Reply → KeptState → Type 0
 RepliesByCommand None before q draw reply after = (after ≡ before) × (upstream_answer before.up q draw ≡ changing_nothing before.up reply)
 RepliesByCommand (Some command) before q draw reply after = RepliesTo command before reply after
@@ -57,9 +57,9 @@ abbrev pub tried_of : (given : Option Command) (before : KeptState) (q : Request
 tried_of None before q draw reply after by_command = []
 tried_of (Some command) before q draw reply after by_command = record { command = command; result = by_command.result } ∷ []
 
--- A request is answered, and the attempt to keep its command changes the upstream and the keeper only as `Carries` states: among
--- other things, the upstream is still its initial state after the kept commands, in order. Unless the keeper failed at this attempt, the
--- reply is not 503 `KeeperFault`.
+-- A request is answered, and the attempt to keep its command, if it gives one, changes the upstream and the keeper only as `Carries`
+-- states: among other things, the upstream is still the initial one after the kept commands in order. Unless the keeper failed at this
+-- attempt, the reply is not 503 `KeeperFault`.
 pub record CarriesAnswer (before : KeptState) (q : Request) (draw : Draw) (reply : Reply) (after : KeptState) : Type 0 where
   pub gives : AnswersByKeeping before q draw reply after
   pub tried : List KeepAttempt

@@ -25,7 +25,7 @@ abbrev pub VersionsBelongToLines : Type 0
 VersionsBelongToLines = (epoch : ℕ) (commands : List Command) (v : EnvVersion) → IsHistoryOf epoch commands v
     → IsLine (line_of epoch commands) × RepresentsLine (line_of epoch commands) everything v
 
--- an environment has a version exactly if the upstream was created with this environment
+-- after any commands, an environment has a version exactly if the upstream was created with this environment
 abbrev pub EnvironmentsStay : Type 0
 EnvironmentsStay =
     (boot : ℕ) (secret : List ℕ) (environments : List (List ℕ)) (book : List Token) (epoch : ℕ) (commands : List Command)

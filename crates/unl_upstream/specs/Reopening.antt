@@ -26,7 +26,7 @@ abbrev pub if_obeyed : CommandResult AppliedCommand → Option UpstreamState
 if_obeyed (Ok obeyed) = Some obeyed.up
 if_obeyed (Err cause) = None
 
--- the upstream after the command that was read from a text; `None` if there was none, or the command is refused
+-- the upstream after the command that was read from a text; `None` if the text is not a command, or the command is refused
 abbrev pub after_reading : UpstreamState → Reading Command → Option UpstreamState
 after_reading up (Ok command) = if_obeyed (apply_command command up)
 after_reading up (Err fault) = None
@@ -35,18 +35,19 @@ after_reading up (Err fault) = None
 unfoldable pub row_after : List ℕ → UpstreamState → Option UpstreamState
 row_after text up = after_reading up (command_in text)
 
--- the upstream after several rows, applied in order
+-- the upstream after several rows, applied in order; `None` if one of them is not a command or its command is refused
 abbrev pub rows_after : List (List ℕ) → UpstreamState → Option UpstreamState
 rows_after [] up = Some up
 rows_after (text ∷ texts) up = option_and_then (rows_after texts) (row_after text up)
 
--- the keeper returned the text of the row after the first `before` ones, and applying it to `up` results in `after`
+-- the keeper returned the text of the row after the first `before` ones, as far as rows are observable, and applying the text to `up`
+-- results in `after`
 pub record TakesRow (before : ℕ) (rows : Option (List (List ℕ))) (up after : UpstreamState) : Type 0 where
   pub text : List ℕ
   pub there : IfSome rows (λ list. slice_get list before ≡ Some text)
   pub leads : row_after text up ≡ Some after
 
--- why the row after the first `before` ones was not applied, by the keeper's state before and after it was read
+-- why the row after the first `before` ones was not applied, by the keeper's state before and after the row was read
 abbrev pub WhyRowFails : ℕ → KeeperState → KeeperState → UpstreamState → ReopenFault → Type 0
 WhyRowFails before keeper keeper_after up (BadRow place text) = (place ≡ before + 1) × (row_after text up ≡ None)
     × IfSome keeper.rows (λ list. slice_get list before ≡ Some text)
@@ -89,7 +90,7 @@ abbrev pub AppliesRowsBefore : KeptState → ℕ → KeptState → (ℕ → Type
 AppliesRowsBefore before place after At = (count : ℕ) × (place ≡ count + 1) × (place ≤ after.keeper.count)
     × Applies before.up after.keeper.rows count after.up × At count
 
--- the result of reopening
+-- the effect of reopening, by its result; on an error, only rows before the failure were applied
 abbrev pub Reopens : KeptState → Result ℕ ReopenFault → KeptState → Type 0
 Reopens before (Ok count) after = Reopened before count after
 Reopens before (Err (BadRow place text)) after = AppliesRowsBefore before place after
@@ -107,7 +108,7 @@ IsAtMostOne [] failed = ⊤
 IsAtMostOne (command ∷ []) failed = IsOneOf command failed
 IsAtMostOne (command ∷ other ∷ commands) failed = ⊥
 
--- The kept commands were applied, or these and one more, whose put had failed. All of them are now kept.
+-- Reopening succeeded. The kept commands were applied, or these and one more, whose put had failed. All applied commands are now kept.
 pub record GivesBack
     (before : KeptState) (failed : List Command) (fresh : UpstreamState) (result : Result ℕ ReopenFault)
     (reopened : KeptState) : Type 0 where

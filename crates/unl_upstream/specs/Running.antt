@@ -28,7 +28,7 @@ use Rattle.unl_upstream.specs.declared.reopening.ReopenFault.TheVariants.{BadRow
 
 -- ---- what is written and served
 
--- the bytes sent, the door, and the draws to come
+-- what an upstream has sent to its output (`None` if not observable), its door, and the draws to come
 pub record UpstreamFacing : Type 0 where
   pub sent : Option (List ℕ)
   pub door : DoorState
@@ -51,8 +51,9 @@ pub record ServesUpstreamLinks (state last : KeptState) (before after : Upstream
   pub serves_links : ServesKeptLinks (linking state before.coming before.door) (linking last after.coming after.door) served
   pub carries : AttemptsPreserve state last
 
--- How serving ends at a door that is to listen at this port. Unless the door failed, it listened there once more than before, and was
--- closed, and the connections line was sent: all of it, a prefix if a write failed, or nothing if memory ran out.
+-- How serving ends at a door that is to listen at this port. If the door failed, nothing was sent, and the door listened there once, or it
+-- did not listen and no link was served. Otherwise it listened there once and was closed, and the connections line was sent: all of it, a
+-- prefix if a write failed, or nothing if memory ran out.
 abbrev pub UpstreamLinksEnd : KeptState → ℕ → ServingEnd → KeptState → UpstreamFacing → UpstreamFacing → Type 0
 UpstreamLinksEnd state port Closed last before after =
     (served : ℕ) × ServesUpstreamLinks state last before after served × Sends before.sent (connections_line served) after.sent
@@ -102,9 +103,9 @@ pub record ServesAfterLines
       → before.door.returned ≡ Some returned
       → NamesUpstreamLinks opened spelled.commands kept (kept_state up last) before after served links returned
 
--- How a reopened upstream ends, with a door that is to listen at this port. If a line is refused, or the input or the keeper
--- fails, no link was handed out; if the keeper fails, nothing was sent either. If taking the lines ends with `Memory`, the keeper
--- never failed.
+-- How a reopened upstream ends, with a door that is to listen at this port. If the lines are not all taken (a line is refused, the input,
+-- the output or the keeper fails, or memory runs out), no link was handed out. If the keeper fails, nothing was sent either. If taking the
+-- lines ends with `Memory`, the keeper never failed.
 abbrev pub LinesEnd : KeptState → ℕ → UpstreamEnd → KeeperState → Option (List ℕ) → Option (List ℕ) → UpstreamFacing
     → UpstreamFacing → Type 0
 LinesEnd opened port NoMemory last left left_after before after = ⊥
@@ -128,7 +129,8 @@ LinesEnd opened port (Links OutOfMemory) last left left_after before after =
 
 -- ---- the keeper
 
--- The maker gets a keeper back: it holds the keeper's rows, and its fault count rose if the keeper ever failed.
+-- A keeper is given back to its maker. The maker then holds the keeper's kept rows, if these and the rows held before are observable. The
+-- maker's fault count rose if the keeper ever failed.
 pub record ComesBack (keeper : KeeperState) (before after : MakerState) : Type 0 where
   pub held : after.held ≡ option_and_then (λ _. kept_rows keeper) before.held
   pub rose : keeper.faults ≢ 0 → Rose before.faults after.faults
@@ -138,7 +140,7 @@ pub record ComesBack (keeper : KeeperState) (before after : MakerState) : Type 0
 pub record IsNew (up : UpstreamState) : Type 0 where
   pub opens : IsOpening up
 
--- the upstream was reopened on its keeper, which had `reopened` rows
+-- the upstream was reopened from its keeper, which had `reopened` rows
 pub record ReopensUpstream (start : KeptState) (reopened : ℕ) (opened : KeptState) : Type 0 where
   pub same : IsSameKeeper start.keeper opened.keeper
   pub reopens : Reopens start (Ok reopened) opened
@@ -158,7 +160,7 @@ pub record RefusesUpstreamRow (start : KeptState) (place : ℕ) : Type 0 where
   pub same : IsSameKeeper start.keeper reached.keeper
   pub reopens : Reopens start (Err fault) reached
 
--- an upstream was reopened, and ended like this
+-- an upstream was reopened, and then ended as `LinesEnd` states
 pub record EndsReopened
     (start : KeptState) (port : ℕ) (end : UpstreamEnd) (last : KeeperState) (left left_after : Option (List ℕ))
     (before after : UpstreamFacing) : Type 0 where

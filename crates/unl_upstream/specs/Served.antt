@@ -1,4 +1,4 @@
--- How a link (a connection) and all links of a door (a listener) are served, for any request handler.
+-- How one link (a connection) is served, and how all links of a door (a listener) are, for any request handler.
 use Rattle.std.specs.Prelude.{◌≡◌, ℕ, List, [], Option, Some, Result, Ok, Err, drop, option_map}
 use Rattle.unl_base.specs.Faults.{Rose}
 use Rattle.unl_base.specs.declared.Failed.{Failed}
@@ -15,7 +15,7 @@ use Rattle.unl_http_api.specs.declared.request.Request.{Request}
 abbrev pub draws_after : ℕ → Coming → Coming
 draws_after drawn coming = option_map (λ draws. (drop drawn draws.0, draws.1)) coming
 
--- the type of a relation between a handler's state before a request, the request, its reply, and the state after it
+-- the type of a relation between a handler's state before a request, the request, its reply, and the handler's state after the reply
 abbrev pub Steps : Type 0 → Type 1
 Steps S = HandlerState S → Request → Reply → HandlerState S → Type 0
 
@@ -23,12 +23,13 @@ Steps S = HandlerState S → Request → Reply → HandlerState S → Type 0
 abbrev pub RunsOut : Type 0 → Type 1
 RunsOut S = HandlerState S → Request → HandlerState S → Type 0
 
--- the type of a relation between a handler's state before a connection, how the connection ended, the number of answered
--- requests, and the state after it
+-- the type of a relation between a handler's state before a connection, how the connection ended, the number of answered requests, and the
+-- handler's state after the connection
 abbrev pub Changing : Type 0 → Type 1
 Changing S = HandlerState S → End → ℕ → HandlerState S → Type 0
 
--- a link was served: `count` of its requests were answered, and `Changes` relates the handler's states before and after
+-- a link was served: `count` of its requests were answered, each as `Step` states, and `Changes` relates the handler's states before and
+-- after
 pub record ServesLinkBy
     {S : Type 0} (Step : Steps S) (RunsOutAtRequest : RunsOut S) (Changes : Changing S) (before : S) (coming : Coming)
     (link link_after : LinkView) (after : S) (coming_after : Coming) : Type 0 where

@@ -1,5 +1,5 @@
--- An upstream, the server that holds the features and segments of a few environments: its initial state, and the effect of each command.
--- The limits and the refusals are chosen by this project.
+-- An upstream, the server that holds the features and segments of up to eight environments: its initial state, and the effect of each
+-- command. The limits of an environment and the reasons to refuse a command are chosen by this project.
 use Rattle.std.specs.Prelude.{◌≡◌, true, false, ℕ, ◌+◌, ◌-◌, ◌^◌, ◌==◌, ◌||◌, nat_lt, List, [], ◌∷◌, length, map, Bool, if◌then◌else◌}
 use Rattle.std.specs.Prelude.{All, Some, is_some, ok_or, Result, Ok, Err}
 use Rattle.std.specs.List.{list_any}
@@ -43,7 +43,7 @@ AreNamed slots = All IsName (names_of slots)
 abbrev pub opening_slot : ℕ → List ℕ → Slot
 opening_slot epoch environment = record { environment = environment; snapshot = Some (empty_at epoch) }
 
--- the initial board: one slot for each of these environments, an empty host, and this book of tokens, which is the first publication
+-- the initial board: one slot for each of these environments, an empty host, and this book of tokens as the first that is published
 abbrev pub opening_board : ℕ → List (List ℕ) → List Token → ℕ → Board
 opening_board boot environments book epoch =
     with_tokens book (record { boot = boot; host = []; generation = 0; book = []; slots = map (opening_slot epoch) environments })
@@ -82,15 +82,15 @@ has_feature name features = is_some (project_of name features)
 abbrev pub has_segment : ℕ → List Segment → Bool
 has_segment id segments = list_any (λ segment. segment.id == id) segments
 
--- succeeds if the item exists already, or the count is below the maximum; otherwise `TooMany`
+-- succeeds if the item exists already, or the count is below the maximum; otherwise `TooMany` with the count
 abbrev pub room_for : Bool → ℕ → ℕ → CommandResult (Unit {0})
-room_for represents most count = if represents || nat_lt count most then Ok tt else Err (TooMany count)
+room_for is_there most count = if is_there || nat_lt count most then Ok tt else Err (TooMany count)
 
 -- succeeds if the item to remove exists; otherwise fails with this refusal
 abbrev pub found : Bool → CommandRefusal → CommandResult (Unit {0})
-found represents refusal = if represents then Ok tt else Err refusal
+found is_there refusal = if is_there then Ok tt else Err refusal
 
--- the next version number, or a refusal at the last one
+-- the next version number, or `TooMany` with the number if it is the last one
 abbrev pub number_after : ℕ → CommandResult ℕ
 number_after n = if n == last_number then Err (TooMany n) else Ok (n + 1)
 
@@ -118,11 +118,11 @@ segment_put segment v = do
 -- the event that removes a segment
 unfoldable pub segment_removed : ℕ → EnvVersion → CommandResult Event
 segment_removed id v = do
-  represents ← found (has_segment id v.state.segments) NoSuchSegment
+  is_there ← found (has_segment id v.state.segments) NoSuchSegment
   number ← number_after v.number
   Ok (SegmentRemoved number id)
 
--- the event of a command at a version, numbered one above it
+-- the event of a command at a version, numbered one above the version, or why the command is refused
 abbrev pub event_of : Command → EnvVersion → CommandResult Event
 event_of (PutFeature environment feature) v = feature_put feature v
 event_of (RemoveFeature environment name) v = feature_removed name v
@@ -149,14 +149,14 @@ batch_of v event = record { epoch = v.epoch; after = Some v.number; events = eve
 abbrev pub version_after : EnvVersion → Event → EnvVersion
 version_after v event = next_version (place_with v) (batch_of v event)
 
--- a prepared command: the slot, the new number, the new version, and the slots that it was prepared from
+-- a prepared command: the index of its environment's slot, the new number, the new version, and the slots that it was prepared from
 pub record Prepared : Type 0 where
   pub slot : ℕ
   pub number : ℕ
   pub snapshot : EnvVersion
   pub from : List Slot
 
--- the prepared command: the new version of its environment, not yet published
+-- prepares a command: the new version of its environment, not yet published, or the first refusal that applies
 unfoldable pub prepared : Command → UpstreamState → CommandResult Prepared
 prepared command up = do
   slot ← ok_or (place_in (environment_of command) up.board.slots) NoSuchEnvironment
@@ -173,7 +173,7 @@ pub record AppliedCommand : Type 0 where
   pub up : UpstreamState
   pub number : ℕ
 
--- the effect of a command: the first refusal that applies, or else its event is published
+-- the effect of a command: the first refusal that applies, or else the upstream with the new version published
 unfoldable pub apply_command : Command → UpstreamState → CommandResult AppliedCommand
 apply_command command up = do
   ready ← prepared command up

@@ -9,7 +9,7 @@ use Rattle.unl_upstream.specs.declared.command.Command.{Command}
 use Rattle.unl_upstream.specs.declared.command.Command.TheVariants.{PutFeature, RemoveFeature, PutSegment, RemoveSegment}
 use Rattle.unl_upstream.specs.Command.{environment_of}
 
--- the members of an object, with the keys `command` and `environment` added
+-- the members of an object, with the keys `command` (whose value is `word`) and `environment` added
 abbrev pub with_head : List ℕ → List ℕ → Members → Members
 with_head word environment members = with field.Command (string word) (with field.Environment (string environment) members)
 

@@ -28,9 +28,12 @@ use unl_documents::{BadDocument, Field, List, Memory};
 use unl_http_api::{Reply, Request, Route, is_post};
 
 impl Upstream {
-    /// Answers a request. A `POST` on the route of commands with the secret as its token gives a command, which is
-    /// applied. On that route, a request with another method or token is refused. On all other routes the upstream's
-    /// board is read, and the reply is that of [`unl_core::answer`].
+    /// Answers a request. On the route `/commands`, a `POST` with the secret as its token and a command as its body
+    /// applies this command, and the reply is 200 with the new version number of the environment, or 404 or 409 if the
+    /// upstream refuses the command. Any other request on that route is refused: 405 for another method, 401 without a
+    /// token, 403 for another token, and 400 for a body that is no command. A refusal changes nothing. On all other
+    /// routes the reply is that of [`unl_core::answer`] for the upstream's board. A report of metrics is answered but
+    /// not stored.
     ///
     /// # Errors
     /// `Memory`: out of memory. The upstream is then unchanged.
@@ -44,7 +47,7 @@ impl Upstream {
         self.answer_one(alloc, request, draw)
     }
 
-    /// Answers a request.
+    /// Answers a request. [`Upstream::answer`] adds the clause about the histories of the versions.
     #[tactic(auto, unfolding(crate::specs::Answer::upstream_answer))]
     fn answer_one(&mut self, alloc: Global, request: &Request, draw: &Draw) -> Result<Reply, Memory>
         ensures answer { IfOk result (λ reply. upstream_answer self.old request.now draw.entry.now
@@ -75,7 +78,7 @@ impl Upstream {
         Ok(CommandOrReply::Reply(answer.reply))
     }
 
-    /// Returns the command that a request on the route of commands gives, or the reply that refuses it.
+    /// Returns the command that a request on the route of commands gives, or the reply that refuses the request.
     fn command_or_reply_at(
         &self,
         alloc: Global,
@@ -96,7 +99,8 @@ impl Upstream {
         command_or_reply_in(alloc, request.body.as_slice())
     }
 
-    /// Applies a command. The reply is built before the command is committed, so that running out of memory changes nothing.
+    /// Applies a command and returns its reply, which may be a refusal. The reply is built before the command is
+    /// committed, so running out of memory changes nothing.
     fn apply_and_reply(&mut self, alloc: Global, command: &Command) -> Result<Reply, Memory>
         requires { IsValidCommand command.now }
         ensures answer { IfOk result (λ reply. replied self.old (apply_command command.now self.old)
@@ -117,7 +121,8 @@ impl Upstream {
     }
 }
 
-/// Reads the command in the body of a request that came with the secret. A bad body is refused with 400 `BadBody`.
+/// Returns the command in the body of a request that came with the secret, or the reply 400 `BadBody` if the body is no
+/// command.
 fn command_or_reply_in(alloc: Global, body: &[u8]) -> Result<CommandOrReply, Memory>
     ensures given { IfOk result (λ given. given ≡ command_or_reply_in (command_in body.now)) }
     ensures valid { IfOk result IsValidCommandOrReply }
@@ -129,7 +134,7 @@ fn command_or_reply_in(alloc: Global, body: &[u8]) -> Result<CommandOrReply, Mem
     }
 }
 
-/// Returns whether a target is the route of commands.
+/// Returns whether a request's target is on the route of commands, `/commands`. False if its route is unknown.
 fn is_commands_route(alloc: Global, target: &[u8]) -> Result<bool, Memory>
     ensures { IfOk result (λ is. is ≡ is_commands_route (route_of target.now)) }
 {
@@ -139,7 +144,7 @@ fn is_commands_route(alloc: Global, target: &[u8]) -> Result<bool, Memory>
     }
 }
 
-/// Returns the reply to an accepted command, which has the new version number of the environment.
+/// Returns the reply to an accepted command: 200 with the new version number of the command's environment.
 pub(crate) fn numbered(alloc: Global, number: u64) -> Result<Reply, Memory>
     ensures { IfOk result (λ reply. reply ≡ numbered number) }
 {
@@ -156,7 +161,8 @@ fn number_object(alloc: Global, number: u64) -> Result<Value, Memory>
     Ok(Value::Object(members))
 }
 
-/// Returns the reply to a command that is refused or not kept. `Memory` is returned as an error.
+/// Returns the reply to a command that is refused or not kept: 404, 409 or 503 with the name of the refusal.
+/// The name for `KeeperFull` is `TooMany`. For `Memory` there is no reply, and `Memory` is returned as the error.
 pub(crate) fn refused(alloc: Global, refusal: KeepCommandRefusal) -> Result<Reply, Memory>
     ensures { IfOk result (λ reply. reply ≡ refused refusal) }
 {

@@ -1,4 +1,5 @@
-//! The `Command` type: adds, replaces or removes one feature or segment of an upstream.
+//! The `Command` type: a change that adds, replaces or removes one feature or segment in one environment of an
+//! upstream.
 ghost use Rattle.std.specs.Prelude.{◌≡◌};
 ghost use Rattle.unl_upstream.specs.Command.{environment_of};
 
@@ -18,14 +19,14 @@ pub enum Command {
 }
 
 impl Command {
-    /// Returns the environment that the command is for. Allocates nothing.
+    /// Returns the name of the environment that the command changes. Allocates nothing.
     pub fn environment(&self) -> &str
         ensures { result.now ≡ environment_of self.now }
     {
         self.environment_text().as_str()
     }
 
-    /// Returns the environment that the command is for, as a text.
+    /// Returns the name of the environment that the command changes, as a `Text`.
     fn environment_text(&self) -> &Text
         ensures { result.now ≡ environment_of self.now }
     {

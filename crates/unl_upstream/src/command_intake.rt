@@ -1,5 +1,5 @@
-//! Reads commands from the lines of an upstream's input. Each command is applied to the upstream and stored by its
-//! keeper, an append-only store of commands.
+//! Takes the commands in the lines of an upstream's input. Each accepted command is stored by the upstream's keeper (an
+//! append-only store of commands) before it is published.
 ghost use Rattle.std.specs.Prelude.{◌≡◌};
 ghost use Rattle.unl_input.specs.Taking.{TakesLine};
 ghost use Rattle.unl_upstream.specs.Command.{IsValidCommand};
@@ -40,7 +40,7 @@ impl<K: Keeper> Model for CommandIntake<K> {
         × (kept.failed ≡ false → (K.state kept.keeper).faults ≡ 0) };
 }
 
-/// Applies and stores the command of each line. A command that is stored prints nothing. A line is refused if its
+/// Stores and applies the command of each line. An accepted command prints nothing. A line is refused if its
 /// command can't be read or is refused; the cause is the first fault of the document or the name of the refusal. If the
 /// keeper fails, `failed` is set and no further line is processed, as if memory had run out.
 impl<K: Keeper> LineProcessor for CommandIntake<K> {
@@ -67,7 +67,8 @@ impl<K: Keeper> LineProcessor for CommandIntake<K> {
     }
 }
 
-/// Keeps a command and prints nothing. Sets `failed` if the keeper failed.
+/// Keeps the command of a line. Returns an empty text to print, or why the line is refused. If the keeper failed, sets
+/// `failed` and returns `Memory`, which ends the processing.
 fn take_command<K: Keeper>(
     alloc: Global,
     kept: &mut CommandIntake<K>,

@@ -1,5 +1,5 @@
-//! How a run of an upstream ends. It is reopened, takes the commands in the lines of its input, and then serves the links
-//! of a door.
+//! The outcomes of running an upstream. The upstream is reopened, takes the commands in the lines of its input, and
+//! then serves the links of a door.
 ghost use Rattle.std.specs.Prelude.{◌≡◌};
 ghost use Rattle.unl_upstream.specs.Ends.{line_end};
 
@@ -12,7 +12,7 @@ pub enum ServingEnd {
     Closed,
     /// The door was closed, and then printing the count of the links failed.
     WriteFault,
-    /// The door failed, or a thread couldn't be started.
+    /// The door couldn't listen or hand out a link, or an edge couldn't start a thread.
     DoorFault,
     /// Memory ran out.
     OutOfMemory,
@@ -36,13 +36,14 @@ impl ServingEnd {
 pub enum UpstreamEnd {
     /// Memory ran out before the first line of the input was taken.
     OutOfMemory,
-    /// The keeper failed, or couldn't be created.
+    /// The keeper couldn't be created, or failed before all lines of the input were taken.
     KeeperFault,
     /// A row of the keeper is missing or isn't an accepted command. The field is the result of printing a line about
     /// that row.
     Row(Result<(), WriteLineFault>),
-    /// Taking the lines of the input ended before its end, with the cause: a refused line, a fault, or out of memory.
+    /// Taking the lines stopped before the end of the input. The field is the cause: a refused line, a failed read or
+    /// write, or out of memory.
     Lines(LinesFault),
-    /// All lines were accepted, and then links were served.
+    /// All lines were accepted. The field is the outcome of serving links after that.
     Links(ServingEnd),
 }

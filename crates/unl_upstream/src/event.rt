@@ -1,4 +1,4 @@
-//! Turns a command into the next event of an environment, at its current version.
+//! Turns a command into the event that follows the current version of an environment.
 ghost use Rattle.std.specs.Prelude.{◌≡◌, IfOk, OnOk, find, option_map};
 ghost use Rattle.unl_delta.specs.State.{project_of};
 ghost use Rattle.unl_delta.specs.Valid.{IsValidVersion};
@@ -24,7 +24,10 @@ const MOST_FEATURES: usize = 10_000;
 /// The maximum number of segments in an environment.
 const MOST_SEGMENTS: usize = 1_000;
 
-/// Returns the event of a command at a version. Its number is one above the version's.
+/// Returns the event of a command at a version. The event's number is one above the version's.
+///
+/// # Errors
+/// The first variant of [`CommandRefusal`] after `NoSuchEnvironment` that applies, or `Memory`: out of memory.
 pub(crate) fn event_of(
     alloc: Global,
     command: &Command,
@@ -44,7 +47,8 @@ pub(crate) fn event_of(
     }
 }
 
-/// Returns the event that adds a feature, or replaces the one with the same name.
+/// Returns the event that adds a feature, or replaces the one with the same name. `TooMany` if the name is new and the
+/// environment has 10,000 features, or if the version's number is the last one.
 #[tactic(auto, unfolding(crate::specs::Upstream::feature_put))]
 fn put_feature(
     alloc: Global,
@@ -65,7 +69,8 @@ fn put_feature(
     Ok(Event::FeatureUpdated { number, feature })
 }
 
-/// Returns the event that removes a feature, with the feature's project.
+/// Returns the event that removes a feature. The event also names the feature's project. `NoSuchFeature` if no feature
+/// has this name. `TooMany` if the version's number is the last one.
 #[tactic(auto, using(crate::proofs::Next::named_within), unfolding(crate::specs::Upstream::feature_removed))]
 fn remove_feature(alloc: Global, name: &Text, version: &EnvVersion) -> Result<Event, CommandRefusal>
     requires { IsValidVersion version.now }
@@ -84,7 +89,8 @@ fn remove_feature(alloc: Global, name: &Text, version: &EnvVersion) -> Result<Ev
     })
 }
 
-/// Returns the event that adds a segment, or replaces the one with the same id.
+/// Returns the event that adds a segment, or replaces the one with the same id. `TooMany` if the id is new and the
+/// environment has 1,000 segments, or if the version's number is the last one.
 #[tactic(auto, unfolding(crate::specs::Upstream::segment_put))]
 fn put_segment(
     alloc: Global,
@@ -104,7 +110,8 @@ fn put_segment(
     Ok(Event::SegmentUpdated { number, segment })
 }
 
-/// Returns the event that removes a segment.
+/// Returns the event that removes a segment. `NoSuchSegment` if no segment has this id. `TooMany` if the version's
+/// number is the last one.
 #[tactic(auto, unfolding(crate::specs::Upstream::segment_removed))]
 fn remove_segment(id: u64, version: &EnvVersion) -> Result<Event, CommandRefusal>
     ensures gives { result ≡ segment_removed id version.now }
@@ -117,14 +124,14 @@ fn remove_segment(id: u64, version: &EnvVersion) -> Result<Event, CommandRefusal
     Ok(Event::SegmentRemoved { number, id })
 }
 
-/// Returns the number plus one, or `TooMany` if it is the last one.
+/// Returns the number plus one, or `TooMany` if the number is the last one, 2^64 - 1.
 fn number_after(number: u64) -> Result<u64, CommandRefusal>
     ensures { result ≡ number_after number }
 {
     number.checked_add(1).ok_or(CommandRefusal::TooMany(number))
 }
 
-/// Returns the project of the feature with this name.
+/// Returns the project of the feature with this name, if there is one.
 fn project_of<'a>(name: &Text, version: &'a EnvVersion) -> Option<&'a Text>
     requires { IsValidVersion version.now }
     ensures { option_map (λ t. t.now) result ≡ project_of name.now version.now.state.features }
@@ -135,7 +142,7 @@ fn project_of<'a>(name: &Text, version: &'a EnvVersion) -> Option<&'a Text>
     }
 }
 
-/// Returns the feature with this name.
+/// Returns the feature with this name, if there is one.
 fn feature_named<'a>(name: &Text, version: &'a EnvVersion) -> Option<&'a Feature>
     requires { IsValidVersion version.now }
     ensures { option_map (λ f. f.now) result ≡ find (is_feature_named name.now) version.now.state.features }

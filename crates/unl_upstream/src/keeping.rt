@@ -1,4 +1,4 @@
-//! Keeping a command: its text is stored with a keeper before the new version of its environment is published.
+//! Keeping a command: storing its text with a keeper, and then publishing the new version of its environment.
 ghost use Rattle.std.specs.Prelude.{◌≡◌, ◌≢◌, ◌<◌, true, [], ◌∷◌, Err, IfOk, IfErr, OnOk};
 ghost use Rattle.unl_upstream.specs.Command.{IsValidCommand};
 ghost use Rattle.unl_upstream.specs.Kept.{Carries, IsPending, KeepsCommand, Puts, kept_state, with_room};
@@ -24,14 +24,15 @@ pub(crate) struct PendingPut {
     pub text: Text,
 }
 
-/// Keeps a command: prepares it, stores its text with the keeper, and only then publishes it. Returns the new version number
-/// of its environment, one above the old.
+/// Keeps a command: prepares it, stores its text with the keeper, and only then publishes it. Returns the new version
+/// number of its environment, one above the old.
 ///
 /// # Errors
 /// `NoSuchEnvironment`, `NoSuchFeature`, `NoSuchSegment` or `TooMany`: the upstream refuses the command, with the first
 /// of these that applies. `KeeperFull`: none of these applies, and the keeper keeps 10,000,000 commands or more.
 /// `KeeperFault`: the keeper failed and incremented its fault count. `Memory`: out of memory. On every error the
-/// upstream and the kept commands are unchanged.
+/// upstream and the kept commands are unchanged. But after `KeeperFault` the text may be in the row after the kept
+/// ones. Unless a later put replaces that row, reopening the keeper restores its command too.
 pub fn keep<K: Keeper>(
     alloc: Global,
     up: &mut Upstream,
@@ -48,7 +49,7 @@ pub fn keep<K: Keeper>(
     keep_one(alloc, up, keeper, command)
 }
 
-/// Keeps a command.
+/// Keeps a command. [`keep`] adds the clause about what this preserves.
 #[tactic(auto, using(crate::proofs::Carrying::refuses))]
 fn keep_one<K: Keeper>(
     alloc: Global,
@@ -95,10 +96,11 @@ pub(crate) fn prepare_put<K: Keeper>(
     Ok(PendingPut { ready, text })
 }
 
-/// Stores a command's text, then publishes the prepared command. Nothing after the keeper's put can run out of memory.
+/// Stores a command's text, then publishes the prepared command and returns the new version number. Nothing after the
+/// keeper's `put` can run out of memory.
 ///
 /// # Errors
-/// The errors of the keeper's `put`. The upstream is then unchanged.
+/// The errors of the keeper's `put`. The upstream and the kept commands are then unchanged.
 pub(crate) fn put<K: Keeper>(
     alloc: Global,
     up: &mut Upstream,

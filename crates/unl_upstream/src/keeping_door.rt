@@ -47,7 +47,7 @@ impl<'a, K: Keeper> Server for DurableUpstream<'a, K> {
 /// while serving it, ends that link alone.
 ///
 /// # Errors
-/// `Failed`: the door could not hand out a link, and incremented its fault count.
+/// `Failed`: the door failed to hand out a link, and incremented its fault count. The links before that were served.
 pub fn serve_kept_door<K: Keeper, D: Door, R: Draws, W: Wait>(
     rt: &W,
     alloc: Global,

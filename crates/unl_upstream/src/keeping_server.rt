@@ -21,8 +21,9 @@ use unl_http_api::{End, Reply, Request};
 use unl_keeper::{KeepRefusal, Keeper};
 use unl_server::{RequestHandler, Server, serve_requests};
 
-/// Answers a request as [`Upstream::answer`] does. But if the request is a command to execute, the keeper stores the
-/// command before the reply acknowledges it.
+/// Answers a request as [`Upstream::answer`] does. But if the request gives a command, the keeper stores the command
+/// before the reply acknowledges it. If the keeper is full, the reply is 409 `TooMany`; if the keeper fails, it is 503
+/// `KeeperFault`. In both cases the upstream and the kept commands are unchanged.
 ///
 /// # Errors
 /// `Memory`: out of memory. The upstream and the keeper are then unchanged.
@@ -42,7 +43,7 @@ pub fn answer_kept<K: Keeper>(
     answer_one(alloc, up, keeper, request, draw)
 }
 
-/// Answers a request.
+/// Answers a request. [`answer_kept`] adds the clauses about what this preserves.
 fn answer_one<K: Keeper>(
     alloc: Global,
     up: &mut Upstream,
@@ -62,8 +63,9 @@ fn answer_one<K: Keeper>(
     }
 }
 
-/// Stores a command in the keeper and applies it, and returns the reply. The replies for success and for a fault of the
-/// keeper are both built before the put, so that nothing after it can run out of memory.
+/// Stores a command with the keeper, publishes it, and returns the reply, which may be a refusal. The replies for
+/// success and for a fault of the keeper are both built before the put, so that nothing after the put can run out of
+/// memory.
 fn keep_and_reply<K: Keeper>(
     alloc: Global,
     up: &mut Upstream,

@@ -15,9 +15,9 @@ ghost use Rattle.unl_upstream.specs.Reopening.{ReopeningGivesBack};
 ghost use Rattle.unl_upstream.specs.Laws.{EnvironmentsStay, VersionsMatchHistory};
 ghost use Rattle.unl_upstream.specs.Laws.{VersionsBelongToLines};
 
-/// After any commands, each environment's version represents the history of the commands accepted for it. Its number is
-/// their count, and its epoch is the one that the upstream was created with. So the version belongs to the line (the
-/// list of the histories of all epochs) that consists of this one history.
+/// After any commands, each environment's version represents the history of the commands accepted for that environment.
+/// The version's number is their count, and its epoch is the one that the upstream was created with. So the version
+/// belongs to the line (a list with one history for each epoch) that has only this history.
 pub fn versions_match_history()
     ensures history { (commands : List Command) → IsHistory (history_of commands) }
     ensures represents { VersionsMatchHistory }
@@ -39,31 +39,33 @@ pub fn refused_changes_nothing()
     ensures again { (commands : List Command) (up : UpstreamState) → accepted (accepted commands up) up ≡ accepted commands up }
 {}
 
-/// Answering a request has the effect of the command that the request gives, if it gives one. No command changes the secret.
+/// Answering a request has the effect of the command that the request gives, if it gives one. No command changes the
+/// secret.
 pub fn requests_give_commands()
     ensures one { (up : UpstreamState) (q : Request) (draw : Draw) → (upstream_answer up q draw).up
         ≡ after_commands (option_to_list (command_given up.secret q)) up }
     ensures secret { (command : Command) (up : UpstreamState) → (after_command command up).secret ≡ up.secret }
 {}
 
-/// These hold after any attempts to keep commands, with any faults of the keeper. The upstream has the state that the
-/// kept commands lead to. Only the acknowledged commands were added to the kept commands. At most one row follows the
-/// kept rows, and it was left by a failed put.
+/// Any attempts to keep commands, with any faults of the keeper, preserve this: the upstream has the state that the
+/// kept commands lead to, and at most one row, left by a failed put, follows the kept rows. Only the acknowledged
+/// commands are added to the kept ones. Attempts made in order, and others made in order after them, are together
+/// attempts made in order.
 pub fn keeping_carries()
     ensures carries { KeepingCarries }
     ensures continues { KeepingContinues }
 {}
 
-/// Reopening a keeper, with an initial upstream of the same environments and epoch, restores the kept commands. It may
-/// also restore one more command, whose put failed after the last successful put. Only a fault of the keeper or running
-/// out of memory can prevent this.
+/// Reopening a keeper with observable rows, for an initial upstream of the same environments and epoch, restores the
+/// kept commands. It may also restore one more command, whose put failed after the last successful put. Only a fault of
+/// the keeper or running out of memory can prevent this.
 pub fn reopening_gives_back()
     ensures { ReopeningGivesBack }
 {}
 
-/// After an upstream that keeps its commands has served links, its state is the earlier state after the kept commands
-/// of the answered requests, in order. Its keeper keeps one more row for each of these commands. Each answered request
-/// takes one draw, and a link on which memory ran out may take one more.
+/// Serving links with an upstream that keeps its commands changes its state only by the kept commands of the answered
+/// requests, in order. Its keeper keeps one more row for each of these commands. Each answered request takes one draw,
+/// and a link on which memory ran out may take one more.
 pub fn kept_links_name_commands()
     ensures { KeptLinksNameCommands }
 {}

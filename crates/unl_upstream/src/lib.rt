@@ -1,11 +1,11 @@
-//! The upstream: the server that holds the features and segments of a few environments. It applies commands to them and
-//! answers requests from their current state.
+//! The upstream: the server that holds the features and segments of up to eight environments. It applies commands to
+//! them and answers requests from their current state.
 //!
 //! Each environment has a version: its state, a number that each accepted command increments, and an epoch, which is
-//! set when the upstream is created. An upstream that lost its state starts again at number 0, with a higher epoch. An
-//! upstream can also keep its commands: it stores each one with a `unl_keeper::Keeper` before it acknowledges it, and
-//! can be reopened from them. [`run_reopened`] does that, takes the commands in the lines of an input, and then serves the
-//! links of a door.
+//! set when the upstream is created. An upstream that lost its state starts again at number 0, and must be created with
+//! a higher epoch than before. An upstream can also keep its commands: it stores each one with a `unl_keeper::Keeper`
+//! before it acknowledges the command, and can be reopened from the stored commands. [`run_reopened`] reopens an
+//! upstream, takes the commands in the lines of an input, and then serves the links of a door.
 #![tactic(auto)]
 
 mod answering;

@@ -8,7 +8,8 @@ use std::alloc::{AllocError, Global};
 use unl_base::{Sink, write_all};
 use unl_input::WriteLineFault;
 
-/// Prints which row of a keeper is refused: the row at `place`.
+/// Prints the line `refused: row <place>`: the row `place` of a keeper, counted from 1, is missing or isn't an accepted
+/// command.
 ///
 /// # Errors
 /// `WriteFault` if the output failed: a prefix of the line was sent. `Memory` if out of memory: nothing was sent.
@@ -29,14 +30,14 @@ pub(crate) fn say_row<O: Sink>(
     }
 }
 
-/// Returns the line that is printed for a refused row.
+/// Returns the line that is printed for a refused or missing row.
 fn row_line(alloc: Global, place: u64) -> Result<String, AllocError>
     ensures { IfOk result (λ line. string_bytes line ≡ row_line place) }
 {
     format!(in alloc; "refused: row {place}\n")
 }
 
-/// Prints the count of links that were served.
+/// Prints the line `connections <served>`: how many links were served.
 ///
 /// # Errors
 /// `WriteFault` if the output failed: a prefix of the line was sent. `Memory` if out of memory: nothing was sent.
@@ -57,7 +58,7 @@ pub fn print_connections<O: Sink>(
     }
 }
 
-/// Returns the line that is printed once the door is closed.
+/// Returns the line with the count of served links, which is printed once the door is closed.
 fn connections_line(alloc: Global, served: u64) -> Result<String, AllocError>
     ensures { IfOk result (λ line. string_bytes line ≡ connections_line served) }
 {

@@ -29,7 +29,7 @@ impl Document for Command {
     }
 }
 
-/// Reads a command whose `command` key has the value `word`.
+/// Reads a command whose `command` key has the value `word`. `WrongKind` if no command has this word.
 #[tactic(auto, unfolding(crate::specs::Command::command_by))]
 fn command_by(alloc: Global, word: &str, value: &Value) -> Result<Command, BadDocument>
     ensures gives { Gives result (command_by word.now (view value.now)) }
@@ -108,6 +108,7 @@ pub fn read_command(alloc: Global, value: &Value) -> Result<Command, BadDocument
 }
 
 /// Reads a command from the JSON bytes of a request body, of a kept row or of a line, as [`read_command`] does.
+/// `NotJson` if the bytes are not JSON.
 #[tactic(auto, unfolding(crate::specs::Command::command_in))]
 pub(crate) fn read_command_bytes(alloc: Global, bytes: &[u8]) -> Result<Command, BadDocument>
     ensures gives { Gives result (command_in bytes.now) }

@@ -11,8 +11,8 @@ use unl_core::{Install, Slot};
 use unl_delta::{Batch, Event, Place};
 use unl_documents::{List, Memory, Shared};
 
-/// A prepared command that is not yet published: the slot of its environment, the new version number, and the new version.
-/// Contracts also see the slots that it was prepared from, which take no space at run time.
+/// A prepared command that is not yet published: the index of its environment's slot, the new version number, and the
+/// new version. Contracts also see the slots that the command was prepared from. These take no space at run time.
 #[derive(Drop)]
 pub struct Ready {
     slot: usize,
@@ -30,7 +30,8 @@ impl Model for Ready {
 }
 
 impl Ready {
-    /// Creates a command that was prepared from `slots` for the slot with the index `slot`.
+    /// Creates a prepared command from `slots`, the index `slot` of its environment's slot in them, the new version
+    /// number, and the new version.
     pub(crate) fn at(
         slots: &List<Slot>,
         slot: usize,
@@ -48,7 +49,7 @@ impl Ready {
         }
     }
 
-    /// Returns the board update that publishes the new version in its slot.
+    /// Returns the install that publishes the new version in its slot.
     pub(crate) fn into_install(self) -> Install
         ensures { result ≡ installs.Env self.slot self.snapshot }
     {
@@ -69,7 +70,8 @@ impl Ready {
     }
 }
 
-/// Applies the next event to the version of a snapshot, and returns the snapshot of the new version.
+/// Returns the snapshot of the version after an event. The event must be a valid change, numbered one above the version
+/// of the given snapshot.
 #[tactic(auto, using(crate::proofs::Next::next_applies, crate::proofs::Next::next_is_batch))]
 pub(crate) fn snapshot_after(
     alloc: Global,

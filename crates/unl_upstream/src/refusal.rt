@@ -20,8 +20,8 @@ pub enum CommandRefusal {
     /// The segment to remove does not exist.
     #[error("there is no such segment")]
     NoSuchSegment,
-    /// The name or id is new and the environment is full, at 10,000 features or 1,000 segments: carries that count. Or the
-    /// environment's version number is the last one, 2^64 - 1: carries that number.
+    /// The name or id is new and the environment is full, at 10,000 features or 1,000 segments: carries that count. Or
+    /// the environment's version number is the last one, 2^64 - 1: carries that number.
     #[error("there are {0} already")]
     TooMany(u64),
     /// Out of memory.

@@ -18,7 +18,8 @@ pub enum ReopenFault {
     /// row, counted from 1, and its text.
     #[error("row {0} is no command that is accepted")]
     BadRow(u64, Text),
-    /// The keeper has no row with this number. Rows are counted from 1.
+    /// The keeper returned no text for the row with this number, counted from 1. This can only happen if the rows are
+    /// not observable.
     #[error("row {0} is not there")]
     NoRow(u64),
     /// The keeper failed, and incremented its fault count.
@@ -46,9 +47,9 @@ impl From<KeepRefusal> for ReopenFault {
 /// Returns the number of rows.
 ///
 /// # Errors
-/// `BadRow`: the text of a row is no command, or its command is refused. `NoRow`: the keeper lacks a row. `Fault`: the keeper
-/// failed and incremented its fault count. `Memory`: out of memory. On an error at a row the upstream has the commands of the
-/// rows before it.
+/// `BadRow`: the text of a row is no command, or its command is refused. `NoRow`: the keeper returned no text for a
+/// row. `Fault`: the keeper failed and incremented its fault count. `Memory`: out of memory. On any of these at a row,
+/// the upstream has applied the rows before that row.
 pub fn reopen<K: Keeper>(
     alloc: Global,
     up: &mut Upstream,
@@ -103,7 +104,8 @@ fn apply_next_row<K: Keeper>(
     }
 }
 
-/// Applies the command of a row. Returns false if the row is no command or the command is refused.
+/// Applies the command of a row. Returns whether this succeeded: false if the row is no command or its command is
+/// refused. On false or an error the upstream is unchanged.
 #[tactic(auto, unfolding(crate::specs::Reopening::row_after))]
 fn apply_row(alloc: Global, up: &mut Upstream, row: &Text) -> Result<bool, Memory>
     ensures applied { IfOk result (λ is. is ≡ true → row_after row.now up.old ≡ Some up.new) }

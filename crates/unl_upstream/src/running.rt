@@ -19,9 +19,10 @@ use unl_base::{Door, Draws, Sink, Source};
 use unl_input::{LinesFault, WriteLineFault, process_lines};
 use unl_keeper::Keeper;
 
-/// Reopens an upstream on its keeper, and runs it: applies and keeps the commands in the input's lines, and then listens
-/// at the port and serves the links of the door. If a row of the keeper is refused, prints which one it is and does
-/// nothing else. Returns how the upstream ended, and the keeper.
+/// Reopens an upstream on its keeper, applies and keeps the commands in the input's lines, and then listens at the
+/// port, serves the links of the door until it is closed, and prints their count. Stops at the first failure. If a row
+/// of the keeper is missing or isn't an accepted command, prints the number of the row and stops. Returns how the
+/// upstream ended, and the keeper.
 pub fn run_reopened<K: Keeper, I: Source, O: Sink, D: Door, R: Draws, W: Wait>(
     rt: &W,
     alloc: Global,
@@ -54,7 +55,8 @@ pub fn run_reopened<K: Keeper, I: Source, O: Sink, D: Door, R: Draws, W: Wait>(
     }
 }
 
-/// Applies and keeps the commands in the input's lines, and then serves the links of the door. Returns the keeper.
+/// Applies and keeps the commands in the input's lines, and then, if all are accepted, serves the links of the door.
+/// Returns how the upstream ended, and the keeper.
 fn take_commands<K: Keeper, I: Source, O: Sink, D: Door, R: Draws, W: Wait>(
     rt: &W,
     alloc: Global,
@@ -97,7 +99,7 @@ fn take_commands<K: Keeper, I: Source, O: Sink, D: Door, R: Draws, W: Wait>(
     }
 }
 
-/// Listens at a port, serves the links of the door until it is closed, and prints their count.
+/// Listens at a port, serves the links of the door until it is closed, and prints how many links were served.
 fn serve_links<K: Keeper, O: Sink, D: Door, R: Draws, W: Wait>(
     rt: &W,
     alloc: Global,

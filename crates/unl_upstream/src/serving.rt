@@ -1,4 +1,4 @@
-//! Serves a connection with an upstream.
+//! Serves a connection with an upstream that has no keeper (no store of its commands).
 ghost use Rattle.unl_server.specs.Conversation.{Converses};
 ghost use Rattle.unl_server.specs.Links.{link_view};
 ghost use Rattle.unl_upstream.specs.Serving.{ServingRunsOut, ObeysRequests, ServesRequest, serving_state};
@@ -10,7 +10,7 @@ use unl_documents::Memory;
 use unl_http_api::{End, Reply, Request};
 use unl_server::{RequestHandler, serve_requests};
 
-/// The request handler of an upstream.
+/// The request handler of an upstream that has no keeper.
 pub(crate) struct ByUpstream;
 
 impl RequestHandler for ByUpstream {
@@ -43,8 +43,9 @@ impl RequestHandler for ByUpstream {
 }
 
 impl Upstream {
-    /// Serves a connection: answers each request until the connection ends. A draw (a time and a random word) is taken
-    /// for each request. Returns how many requests were answered, and how the connection ended.
+    /// Serves a connection until it ends: answers each request, and applies the command of a request that gives one.
+    /// A draw (a time and a random word) is taken for each request. Returns how many requests were answered, and how
+    /// the connection ended.
     pub fn serve<L: Link, R: Draws>(
         &mut self,
         alloc: Global,

@@ -44,12 +44,12 @@ impl Model for Upstream {
 }
 
 impl Upstream {
-    /// Creates an upstream of up to eight environments with different names. Each environment is empty, at number 0 of
-    /// the epoch. `boot` distinguishes this run of the program from others. `book` is the list of tokens that requests
-    /// may use.
+    /// Creates an upstream of up to eight environments with different, valid names. Each environment is empty, at
+    /// number 0 of the epoch. `boot` distinguishes this run of the program from others. `book` is the list of tokens
+    /// that requests may use, and `secret` the token that allows a request to give commands.
     ///
     /// An upstream that lost its state must be created with a higher epoch than before. Otherwise its clients may have
-    /// versions with higher numbers, and ignore the new ones.
+    /// versions with higher numbers, and ignore the new versions.
     ///
     /// # Errors
     /// `Memory`: out of memory.
@@ -70,7 +70,7 @@ impl Upstream {
         Upstream::opening(alloc, boot, secret, environments, book, epoch)
     }
 
-    /// Creates an upstream in its initial state.
+    /// Creates an upstream in its initial state. [`Upstream::new`] adds the clause about the histories of the versions.
     #[tactic(auto, using(crate::proofs::Slots::slots_opened, crate::proofs::Slots::named_opened))]
     fn opening(
         alloc: Global,
@@ -110,10 +110,11 @@ impl Upstream {
     }
 
     /// Applies a command and returns the new version number of its environment, one above the old. If the old version
-    /// represents the history without this command, the new one represents the history with it.
+    /// represents the history of some commands, the new version represents this history with the command added.
     ///
     /// # Errors
-    /// The first refusal that applies, or `Memory`: out of memory. The upstream is then unchanged.
+    /// The first variant of [`CommandRefusal`] that applies, or `Memory`: out of memory. The upstream is then
+    /// unchanged.
     pub fn apply(&mut self, alloc: Global, command: &Command) -> Result<u64, CommandRefusal>
         requires { IsValidCommand command.now }
         ensures applied { IfOk result (λ number. apply_command command.now self.old ≡ Ok (record { up = self.new; number = number })) }
@@ -124,7 +125,7 @@ impl Upstream {
         self.apply_one(alloc, command)
     }
 
-    /// Applies a command.
+    /// Applies a command. [`Upstream::apply`] adds the clause about the histories of the versions.
     fn apply_one(&mut self, alloc: Global, command: &Command) -> Result<u64, CommandRefusal>
         requires { IsValidCommand command.now }
         ensures applied { IfOk result (λ number. apply_command command.now self.old ≡ Ok (record { up = self.new; number = number })) }
@@ -137,11 +138,12 @@ impl Upstream {
         }
     }
 
-    /// Prepares a command: computes the new version of its environment without publishing it. On success the command names an
-    /// existing environment, and an existing feature if it removes one, so these names are within the limits.
+    /// Prepares a command: computes the new version of its environment without publishing it. On success the command
+    /// names an existing environment and, if it removes a feature, an existing feature, so these names are within the
+    /// limits.
     ///
     /// # Errors
-    /// The first refusal that applies, or `Memory`: out of memory.
+    /// The first variant of [`CommandRefusal`] that applies, or `Memory`: out of memory.
     #[tactic(auto, unfolding(crate::specs::Upstream::prepared), using(crate::proofs::Slots::named_at))]
     pub fn prepare(&self, alloc: Global, command: &Command) -> Result<Ready, CommandRefusal>
         requires { IsValidCommand command.now }
@@ -176,7 +178,7 @@ impl Upstream {
     }
 }
 
-/// Returns a slot for each environment, with an empty version.
+/// Returns a slot for each environment, with an empty version at number 0 of the epoch.
 fn opening_slots(alloc: Global, environments: &[Text], epoch: u64) -> Result<Vec<Slot>, Memory>
     ensures { IfOk result (λ slots. slots.items ≡ map (opening_slot epoch) environments.now) }
 {

@@ -12,7 +12,8 @@ use std::alloc::Global;
 use unl_documents::to_value::{ToValue, put, put_value};
 use unl_documents::{Feature, Field, Memory, Segment, Text};
 
-/// Writes a command as a JSON object with the keys `command`, `environment`, and `feature`, `name`, `segment` or `id`.
+/// Writes a command as a JSON object with the keys `command` and `environment`, and one of `feature`, `name`, `segment`
+/// and `id`.
 ///
 /// [`read_command`](crate::read_command) reads the same command back if the feature or segment in it is valid, and the
 /// environment and the name of a removed feature are valid names.
