@@ -37,8 +37,9 @@ impl From<AllocError> for Cause {
     }
 }
 
-/// Reads the arguments of the command line, without the program's name. If the environment variable `UNL_EDGE_WORDS_FILE`
-/// names a file, each non-empty line of it is appended as an argument. If the variable is empty, no file is read.
+/// Reads the arguments of the command line, without the program's name. If the environment variable
+/// `UNL_EDGE_WORDS_FILE` has the path of a file, each non-empty line of that file is appended as an argument. If the
+/// variable is not set or empty, no file is read.
 ///
 /// # Errors
 /// `Bad` if an argument, the path or the file isn't UTF-8, or if the file can't be read. `Memory` if memory runs out.

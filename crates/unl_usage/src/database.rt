@@ -37,7 +37,7 @@ fn log_of(alloc: Global, path: &str) -> Result<String, AllocError> {
     format!(in alloc; "{path}-wal")
 }
 
-/// The modification time of a file, in seconds since 1970. 0 if it can't be read.
+/// The modification time of a file, in seconds since 1970. 0 if it can't be read or is before 1970.
 fn changed_at<R: Files>(rt: &R, path: &str) -> u64 {
     let Ok(metadata) = fs::metadata(rt, path) else {
         return 0;

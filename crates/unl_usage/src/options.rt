@@ -7,7 +7,7 @@ pub(crate) enum OptionKind {
     Number,
     /// Comma-separated items.
     List,
-    /// Any other text.
+    /// Any other text, such as an address or a name.
     Other,
 }
 
@@ -295,7 +295,7 @@ pub(crate) fn options_of(command: &str) -> Option<&'static [CommandOption]> {
     }
 }
 
-/// Returns a valid value for a required option. Every command that has the option accepts it.
+/// Returns a sample value for a required option. Every command with this option accepts it.
 pub(crate) fn sample_of(option: &str) -> &'static str {
     match option {
         "upstream" => "h:1",

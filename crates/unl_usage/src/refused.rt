@@ -27,14 +27,14 @@ pub fn report_refusal<R: Env + Files + AllocGlobal + Eprint>(rt: &R, program: Pr
     }
 }
 
-/// Prints a line on standard error.
+/// Prints a text and a line break on standard error. A failed write is ignored.
 fn report<E: Eprint, D: Display + Drop>(rt: &E, line: D) {
     let _ = rt.eprintln(line);
 }
 
-/// Returns the text to print for refused arguments: the reason and the usage, as lines. If the first argument is
-/// `--version` or `-V`, the text is the version instead. The text contains no option value that was given, since it may be
-/// secret.
+/// Returns the text to print for refused arguments, as lines: the reason, unless they ask for help, and the usage. If
+/// the first argument is `--version` or `-V`, the text is the version instead. The text contains no option value that
+/// was given, since a value may be secret.
 ///
 /// # Errors
 /// Out of memory.
@@ -56,7 +56,7 @@ pub fn refusal_text(
     Ok(text)
 }
 
-/// Appends why `unl_edge` refuses its arguments.
+/// Appends why `unl_edge` refuses its arguments, and the usage: that of the command or, if none is named, the commands.
 fn push_edge(
     alloc: Global,
     text: &mut String,
@@ -80,7 +80,7 @@ fn push_no_command(text: &mut String, first: &str) -> Result<(), AllocError> {
     }
 }
 
-/// Appends why `unl_durable_upstream` refuses its arguments.
+/// Appends why `unl_durable_upstream` refuses its arguments, and its usage.
 fn push_durable(
     alloc: Global,
     text: &mut String,
@@ -125,7 +125,7 @@ fn push_fault(
     }
 }
 
-/// Appends the program and the command that refuse the arguments.
+/// Appends the start of a line: the name of the program and, for `unl_edge`, that of the command.
 fn push_place(text: &mut String, program: Program, command: &str) -> Result<(), AllocError> {
     match program {
         Program::Edge => write!(text, "unl_edge {command}: "),
@@ -155,8 +155,8 @@ fn push_option_fault(text: &mut String, option_fault: &OptionFault<'_>) -> Resul
     }
 }
 
-/// Appends the first option whose value is refused. If there is none, the client and frontend tokens together are at
-/// fault.
+/// Appends why the first refused value is refused. If each value alone is accepted, the client and frontend tokens
+/// together are at fault.
 fn push_values(
     alloc: Global,
     text: &mut String,

@@ -1,4 +1,4 @@
-//! Splits arguments into options and their values, and finds the first argument that is neither.
+//! Splits arguments into options and their values, or finds the first fault.
 use crate::options::CommandOption;
 use std::alloc::{AllocError, Global};
 
@@ -116,12 +116,12 @@ fn with_required<'a>(options: &[CommandOption], found: Vec<Given<'a>>) -> Scanne
     Ok(found)
 }
 
-/// The option with this name.
+/// The option of the command with this name, or `None` if there is none.
 fn option_named(options: &[CommandOption], name: &str) -> Option<CommandOption> {
     options.iter().find(|option| option.name == name).copied()
 }
 
-/// The value given for the option with this name.
+/// The value given for the option with this name, or `None` if none is given.
 pub(crate) fn value_of<'a>(found: &[Given<'a>], name: &str) -> Option<&'a str> {
     for given in found {
         if given.option.name == name {

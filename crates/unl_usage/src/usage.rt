@@ -8,7 +8,7 @@ const VERSION: &str = "1.0.0, proved with rattle-kit-13f of the logic dac8208d65
 
 /// The note on the environment variable that names a file with more arguments.
 const FILE_NOTE: &str =
-    "If UNL_EDGE_WORDS_FILE names a file, each of its lines is one more argument.";
+    "If UNL_EDGE_WORDS_FILE names a file, each of its non-empty lines is one more argument.";
 
 /// Appends the program's name and version.
 pub(crate) fn push_version(text: &mut String, program: Program) -> Result<(), AllocError> {
@@ -16,7 +16,7 @@ pub(crate) fn push_version(text: &mut String, program: Program) -> Result<(), Al
     write!(text, "{name} {VERSION}")
 }
 
-/// Appends the list of commands.
+/// Appends the list of commands, and the note on the file of arguments.
 pub(crate) fn push_commands(text: &mut String) -> Result<(), AllocError> {
     text.push_str("usage: unl_edge COMMAND [--OPTION VALUE ..]")?;
     for (name, purpose) in &COMMANDS {
@@ -28,7 +28,8 @@ pub(crate) fn push_commands(text: &mut String) -> Result<(), AllocError> {
     text.push_str(FILE_NOTE)
 }
 
-/// Appends the usage of a command: one line with its required options, then one line for each option.
+/// Appends the usage of a command: one line with its required options, one line for each option, and the note on the
+/// file of arguments.
 pub(crate) fn push_usage(
     text: &mut String,
     program: Program,
