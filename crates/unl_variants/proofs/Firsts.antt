@@ -12,11 +12,11 @@ some_from : {T : Type 0} (p : T → Bool) (i : ℕ) (xs : List T) → is_some (p
 some_from p i [] = refl
 some_from p i (x ∷ xs) = elim (p x) as (λ b. is_some (cond b (Some i) (position_from p (i + 1) xs)) ≡ (b || list_any p xs)) [ true ↦ refl | false ↦ some_from p (i + 1) xs ]
 
--- there is such an index if and only if some item passes the test
+-- `position` returns an index if and only if some item passes the test
 pub some_passes : {T : Type 0} (p : T → Bool) (xs : List T) → is_some (position p xs) ≡ list_any p xs
 some_passes p xs = ap is_some (position_from-zero p xs) ∙ some_from p 0 xs
 
--- `position` returns the first position
+-- the index that `position` returns is that of the first item that passes the test
 pub first_at : {T : Type 0} (p : T → Bool) (xs : List T) (k : ℕ) → position p xs ≡ Some k → IsFirst p xs k
 first_at p [] k is = absurd (cc)
 first_at p (x ∷ xs) k is =
@@ -27,7 +27,7 @@ first_at p (x ∷ xs) k is =
       not_before = λ j d low below. (position-Some p (x ∷ xs) k d is).2 j below;
     }
 
--- there is only one such index
+-- the index of the first item that passes the test is the one that `position` returns
 pub first_only : {T : Type 0} (p : T → Bool) (xs : List T) (k : ℕ) → IsFirst p xs k → position p xs ≡ Some k
 first_only p [] k first = absurd (omega (arith, first.inside))
 first_only p (x ∷ xs) k first =

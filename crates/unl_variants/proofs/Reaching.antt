@@ -14,7 +14,7 @@ length_sums : (before : ℕ) (vs : List Variant) → length (sums_from before vs
 length_sums before [] = refl
 length_sums before (v ∷ vs) = ap suc (length_sums (before + v.weight) vs)
 
--- each sum is that of the weights up to and including its position
+-- each item of `sums_from` is `before` plus the weights up to and including its index
 sum_at : (before : ℕ) (vs : List Variant) (k d : ℕ) → k < length vs → get_or (sums_from before vs) k d ≡ before + total_weight (take (suc k) vs)
 sum_at before [] k d inside = absurd (omega (arith, inside))
 sum_at before (v ∷ vs) zero d inside = rw sum_by-cons (omega arith)
@@ -59,7 +59,7 @@ heavier : (vs : List Variant) (j k : ℕ) → j < k → weight_before (j + 1) vs
 heavier vs j k below =
     subst (λ prefix. total_weight prefix ≤ total_weight (take k vs)) (take-take (j + 1) k vs (omega arith)) (sum_by-take-le (λ (v : Variant). v.weight) (take k vs) (j + 1))
 
--- at most one index is the first for which the sum is at least the target
+-- at most one index satisfies `IsReached`
 pub reached_once : (target : ℕ) (vs : List Variant) (j k : ℕ) → IsReached target vs j → IsReached target vs k → j ≡ k
 reached_once target vs j k a b =
     elim (cases_lt j k) [

@@ -28,7 +28,8 @@ weight_before place variants = total_weight (take place variants)
 abbrev pub is_among : List (List ℕ) → List ℕ → Bool
 is_among values text = list_any (λ value. bytes_eq value text) values
 
--- whether the override matches the context: the context has the override's field, and its value is one of the override's values
+-- whether the override matches the context: the context has the override's field, and the value of this field in the context is one of the
+-- override's values
 unfoldable pub is_meant : Fields → Override → Bool
 is_meant context o = option_map_or (is_among o.values) (field_of context o.field) false
 
@@ -36,22 +37,23 @@ is_meant context o = option_map_or (is_among o.values) (field_of context o.field
 abbrev pub is_overridden : Fields → Variant → Bool
 is_overridden context variant = list_any (is_meant context) variant.overrides
 
--- the stickiness of the first variant, which applies to all variants; empty if there is none
+-- the stickiness of the first variant, which applies to all variants; empty if there are no variants or the first has no stickiness
 abbrev pub stickiness_of : List Variant → List ℕ
 stickiness_of [] = []
 stickiness_of (v ∷ vs) = unwrap_or v.stickiness []
 
--- the user id, or the session id if there is no user id
+-- the userId, or the sessionId if there is no userId; `None` if there is neither
 abbrev pub own_id : Fields → Option (List ℕ)
 own_id context = option_or (field_of context (codes "userId")) (field_of context (codes "sessionId"))
 
--- the text that a stickiness selects from a context, if any
+-- the text that a stickiness selects from a context: empty or `default` selects `own_id`, `random` selects nothing, and any other text
+-- selects the field or property with this name; `None` if nothing is selected or the context lacks what is selected
 unfoldable pub sticky_text : List ℕ → Fields → Option (List ℕ)
 sticky_text name context =
     if bytes_eq name (codes "") || bytes_eq name (codes "default") then own_id context else (
     if bytes_eq name (codes "random") then None else field_of context name)
 
--- the id that is hashed: the text that the stickiness selects, or the random number in decimal if it selects nothing
+-- the id that is hashed: the text that the stickiness selects, or the random number in decimal if that is absent
 unfoldable pub id_of : List Variant → Fields → ℕ → List ℕ
 id_of variants context random = unwrap_or (sticky_text (stickiness_of variants) context) (decimal random)
 
@@ -89,7 +91,7 @@ abbrev pub sums_from : ℕ → List Variant → List ℕ
 sums_from before [] = []
 sums_from before (v ∷ vs) = (before + v.weight) ∷ sums_from (before + v.weight) vs
 
--- the first index for which the sum of the weights up to and including it is at least the target
+-- the index of the first variant for which the sum of the weights up to and including its own is at least the target
 unfoldable pub place_reached : ℕ → List Variant → Option ℕ
 place_reached target variants = position (λ sum. nat_le target sum) (sums_from 0 variants)
 

@@ -15,12 +15,13 @@ use unl_murmur::normalized;
 const SEED: u32 = 86_028_157;
 
 /// Returns the index of the variant chosen for a context, counted from 0. Returns `None` if and only if the weights sum
-/// to 0. Allocates nothing. There are at most 100 variants with weights of at most 1,000.
+/// to 0, even if a variant has an override. Allocates nothing. There must be at most 100 variants, each with a weight
+/// of at most 1,000.
 ///
 /// If a variant has an override for the context, the first such variant is chosen. Otherwise the choice is by weight:
 /// the hash of `group` and the id gives a number from 1 to the sum of all weights. The first variant is chosen for
 /// which the sum of the weights up to and including its own is at least this number. The id is the text that the
-/// stickiness of the first variant selects from the context. If it selects nothing, the id is `random` in decimal.
+/// stickiness of the first variant selects from the context. If that is absent, the id is `random` in decimal.
 pub fn choose(
     group: &str,
     variants: &List<Variant>,

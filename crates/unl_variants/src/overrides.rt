@@ -1,4 +1,4 @@
-//! Overrides, which give a variant to certain contexts.
+//! Overrides, which give a variant to certain contexts regardless of the weights.
 ghost use Rattle.std.specs.Prelude.{◌≡◌, position};
 ghost use Rattle.std.specs.List.{list_any};
 ghost use Rattle.unl_variants.specs.Variant.{is_among as among, is_meant as meant, is_overridden as overridden};
@@ -20,8 +20,8 @@ fn has_override(overrides: &[Override], context: &Context) -> bool
     overrides.iter().any(|one| is_meant(one, context))
 }
 
-/// Returns whether an override matches the context: the context has the override's field, and its value is one of the
-/// override's values.
+/// Returns whether an override matches the context: the context has the override's field, and the value of this field
+/// in the context is one of the override's values.
 #[tactic(auto, unfolding(crate::specs::Variant::is_meant))]
 fn is_meant(one: &Override, context: &Context) -> bool
     ensures { result ≡ meant context.now one.now }

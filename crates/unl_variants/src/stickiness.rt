@@ -5,7 +5,8 @@ ghost use Rattle.unl_variants.specs.Variant.{sticky_text as sticky_text_of, stic
 use unl_context::Context;
 use unl_documents::{Text, Variant};
 
-/// Returns the stickiness of the first variant, or an empty text if there is none. It applies to all variants.
+/// Returns the stickiness of the first variant, which applies to all variants. Empty if there are no variants or the
+/// first variant has no stickiness.
 pub(crate) fn stickiness_of(variants: &[Variant]) -> &str
     ensures { result.now ≡ name_of_stickiness variants.now }
 {
@@ -15,9 +16,9 @@ pub(crate) fn stickiness_of(variants: &[Variant]) -> &str
     }
 }
 
-/// Returns the text that a stickiness selects from a context, if any. An empty stickiness or `default` selects the user
-/// id, or the session id if there is no user id. `random` selects nothing. Any other name selects the field of that
-/// name.
+/// Returns the text that a stickiness selects from a context. An empty stickiness or `default` selects the userId, or
+/// the sessionId if there is no userId. `random` selects nothing. Any other text selects the field or property with
+/// this name. Returns `None` if nothing is selected or the context lacks what is selected.
 #[tactic(auto, unfolding(crate::specs::Variant::sticky_text))]
 pub(crate) fn sticky_text<'a>(name: &str, context: &'a Context) -> Option<&'a str>
     ensures { option_map (λ text. text.now) result ≡ sticky_text_of name.now context.now }
@@ -29,7 +30,7 @@ pub(crate) fn sticky_text<'a>(name: &str, context: &'a Context) -> Option<&'a st
     }
 }
 
-/// Returns the user id, or the session id if the context has no user id.
+/// Returns the userId, or the sessionId if the context has no userId. `None` if it has neither.
 fn own_id(context: &Context) -> Option<&str>
     ensures { option_map (λ text. text.now) result ≡ own_id_of context.now }
 {

@@ -16,8 +16,8 @@ pub(crate) fn total_weight(variants: &[Variant]) -> u32
     total
 }
 
-/// Returns the first index for which the sum of the weights up to and including it is at least `target`. Returns `None`
-/// if the sum of all weights is less than `target`.
+/// Returns the index of the first variant for which the sum of the weights up to and including its own is at least
+/// `target`. Returns `None` if the sum of all weights is less than `target`.
 pub(crate) fn place_reached(variants: &[Variant], target: u32) -> Option<usize>
     requires limits { AreWithinLimits variants.now }
     requires some { 0 < target }
