@@ -29,7 +29,7 @@ unfolding words_of
 exactly arguments command result named gives =
     subst (λ (found : Option CommandDefinition). Gives Memory result (ok_or found Bad >>= (λ (c : CommandDefinition). asked_of c arguments))) named gives
 
--- The arguments name only one command.
+-- The arguments name at most one command.
 pub decided : (arguments : List Text) (known command : CommandDefinition) (result : WordsReading) → Some known ≡ command_of arguments
     → DecidedByRanges known arguments result → command_of arguments ≡ Some command → DecidedByRanges command arguments result
 decided arguments known command result named answers is =

@@ -1,4 +1,4 @@
--- Each command is simple, and none of its options has a rule about another.
+-- Each command is simple, as `is_simple_and_free` of clap says, and none of its options has a rule about another option.
 use Rattle.std.proofs.Common.{◌≡◌, true, refl}
 use Rattle.clap.specs.Words.{is_simple_and_free}
 use Rattle.unl_words.specs.Commands.{command_by}

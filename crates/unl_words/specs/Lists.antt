@@ -1,4 +1,4 @@
--- How comma-separated lists are read: environments and tokens.
+-- How comma-separated lists of environments and of tokens are read. A name has 1 to 255 bytes.
 use Rattle.std.specs.Prelude.{◌&&◌, ◌||◌, ◌+◌, ◌++◌, not, ℕ, Bool, true, false, List, [], ◌∷◌, map, length, nat_le, Result, Ok, Err}
 use Rattle.std.specs.List.{list_all}
 use Rattle.clap.specs.Words.{Text}
@@ -24,8 +24,8 @@ are_apart texts others = list_all (λ text. not (is_one_of text others)) texts
 
 -- ---- tokens
 
--- The token's environment and projects are names. If its text has `[]` in place of a project, so that only the token server knows
--- its projects, `may_be_open` must be true.
+-- The text was read as a token whose environment and projects are names. If the text has `[]` in place of a project, so that only the
+-- token server knows the projects, `may_be_open` must be true.
 abbrev pub is_named : Bool → Result Scope BadToken → Bool
 is_named may_be_open (Ok scope) = is_name scope.environment && (are_names scope.projects && (may_be_open || not scope.listed))
 is_named may_be_open (Err e) = false

@@ -8,14 +8,14 @@ use Rattle.unl_tokens.specs.declared.fault.BadBook.{BadBook}
 use Rattle.unl_tokens.specs.declared.token.Token.{Token}
 use Rattle.unl_tokens.specs.Books.{book_of}
 
--- A token's text as an entry of the given kind. The text names the token's projects.
+-- The entry for a token in the response of a token server: its text and its kind. The projects are those that the text names.
 unfoldable pub own_entry : List ℕ → List ℕ → Data
 own_entry kind text = object (
     with field.Token (string text) (
     with field.Kind (string kind)
     no_members))
 
--- The entries of both lists.
+-- The entries of the client tokens, then those of the frontend tokens.
 abbrev pub own_entries : List (List ℕ) → List (List ℕ) → List Data
 own_entries clients frontends = map (own_entry (codes "client")) clients ++ map (own_entry (codes "frontend")) frontends
 
@@ -30,6 +30,7 @@ abbrev pub tokens_read : Result (List Token) BadBook → List Token
 tokens_read (Ok tokens) = tokens
 tokens_read (Err fault) = []
 
--- The token book of both lists. If the arguments are in their ranges, every token of the response is read.
+-- The token book (the list of known tokens) for both lists, read from that response. It is empty if reading fails, which can't happen if
+-- the arguments are in their ranges.
 unfoldable pub own_book : List (List ℕ) → List (List ℕ) → List Token
 own_book clients frontends = tokens_read (book_of (own_answer clients frontends))

@@ -10,7 +10,7 @@ use Rattle.unl_words.specs.declared.words.Words.TheVariants.{Replay, Check, Edge
 use Rattle.unl_words.specs.Lists.{are_environments, are_own_tokens, are_tokens, are_upstream_tokens, fit_one_book, is_token}
 use Rattle.unl_words.specs.Values.{is_address, is_line, is_secret}
 
--- The number is within the bounds.
+-- The number is at least `least` and at most `most`.
 abbrev pub IsWithin : ℕ → ℕ → ℕ → Type 0
 IsWithin least most number = (least ≤ number) × (number ≤ most)
 

@@ -17,15 +17,15 @@ use Rattle.unl_words.specs.Refusals.{refusal_by}
 use Rattle.unl_words.specs.declared.refusal.WordsRefusal.{WordsRefusal}
 use Rattle.unl_words.specs.declared.refusal.WordsRefusal.TheVariants.{Bad}
 
--- A value, or the refusal of an argument outside its range.
+-- A value, or why the arguments are refused.
 abbrev pub Value : Type 0 → Type 0
 Value T = Result T WordsRefusal
 
--- The value, if it passes the test.
+-- The value if it passes the test, otherwise the refusal `Bad`.
 abbrev pub passed : {T : Type 0} → Bool → T → Value T
 passed passes value = if passes then Ok value else Err Bad
 
--- The value of a required option.
+-- The value of a required option, or the refusal `Bad` if the option is absent.
 abbrev pub required : {T : Type 0} → (Text → Value T) → Option Text → Value T
 required reads given = option_map_or reads given (Err Bad)
 
@@ -43,7 +43,7 @@ is_number text = nat_lt 0 (length text) && list_all is_ascii_digit text
 abbrev pub within : ℕ → ℕ → ℕ → Value ℕ
 within least most number = passed (nat_le least number && nat_le number most) number
 
--- The number that is written in a text, if it is within the bounds.
+-- The decimal number that is written in a text, if it is within the bounds.
 unfoldable pub number_within : ℕ → ℕ → Text → Value ℕ
 number_within least most text = if is_number text then within least most (digits_value 10 text) else Err Bad
 
@@ -77,7 +77,7 @@ is_secret text = has_bytes text && is_line text
 abbrev pub secret_of : Text → Value Text
 secret_of text = passed (is_secret text) text
 
--- The text is HOST:PORT, split at its last colon.
+-- The text is HOST:PORT, split at its last colon. The host isn't empty and contains no carriage return, line feed or NUL.
 unfoldable pub is_address : Text → Bool
 is_address text = option_map_or (λ sides. is_secret sides.0 && is_port sides.1) (rsplit_once 58 text) false
 
@@ -85,7 +85,7 @@ is_address text = option_map_or (λ sides. is_secret sides.0 && is_port sides.1)
 abbrev pub address_of : Text → Value Text
 address_of text = passed (is_address text) text
 
--- The mode: true for `delta`, false for `feed`.
+-- The mode: true for `delta` (only changes are requested), false for `feed` (whole feeds). Other texts are refused.
 abbrev pub mode_of : Text → Value Bool
 mode_of text = if bytes_eq text (codes "delta") then Ok true else passed (bytes_eq text (codes "feed")) false
 
@@ -93,15 +93,15 @@ mode_of text = if bytes_eq text (codes "delta") then Ok true else passed (bytes_
 abbrev pub mode_or_delta : Option Text → Value Bool
 mode_or_delta given = option_map_or mode_of given (Ok true)
 
--- The storage: true for `sqlite`, false for `memory`.
+-- Where commands are kept: true for `sqlite` (a database in memory), false for `memory` (a list). Other texts are refused.
 abbrev pub sqlite_of : Text → Value Bool
 sqlite_of text = if bytes_eq text (codes "sqlite") then Ok true else passed (bytes_eq text (codes "memory")) false
 
--- The storage of an option, `memory` by default.
+-- Where commands are kept by an option, `memory` by default.
 abbrev pub sqlite_or_memory : Option Text → Value Bool
 sqlite_or_memory given = option_map_or sqlite_of given (Ok false)
 
--- The text, if it is a name.
+-- The text, if it is a name: 1 to 255 bytes.
 abbrev pub name_of : Text → Value Text
 name_of text = passed (is_name text) text
 

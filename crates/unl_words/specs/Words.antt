@@ -53,7 +53,7 @@ replay = record { app = replay_app; asks = λ rows. Ok Replay }
 unfoldable pub check_app : App
 check_app = with_options (codes "check") (option_named (codes "now") ∷ option_named (codes "word") ∷ [])
 
--- The latest time that `check` accepts, in milliseconds since 1970 (chosen by this project).
+-- The latest time that `check` accepts, in milliseconds since 1970. The limit is chosen by this project.
 abbrev pub last_moment : ℕ
 last_moment = 100000000000000
 
@@ -61,20 +61,20 @@ last_moment = 100000000000000
 abbrev pub last_number : ℕ
 last_number = 2 ^ 64 - 1
 
--- How `check` is read from its rows of values.
+-- How `check` is read from the rows of values that clap finds. Each value defaults to 0.
 unfoldable pub asks_check : List Row → WordsReading
 asks_check rows = do
   now ← number_or 0 0 last_moment (first_of (codes "now") rows)
   word ← number_or 0 0 last_number (first_of (codes "word") rows)
   Ok (Check now word)
 
--- The command `check`, which runs a test file.
+-- The command `check`, which runs a test file of the Unleash client specification.
 abbrev pub check : CommandDefinition
 check = record { app = check_app; asks = asks_check }
 
 -- ---- edge
 
--- `edge` requires its upstream and the tokens.
+-- `edge` requires the address of its upstream, the tokens for the upstream, and the tokens that it accepts.
 unfoldable pub edge_app : App
 edge_app = with_options (codes "edge") (option_named (codes "port")
     ∷ required_named (codes "upstream") ∷ required_named (codes "upstream-tokens") ∷ required_named (codes "tokens")
@@ -206,7 +206,7 @@ load = record { app = load_app; asks = asks_load }
 
 -- ---- the first argument
 
--- The command with this name.
+-- The command with this name, or `None` if there is no such command.
 abbrev pub command_named : Text → Option CommandDefinition
 command_named name =
     if bytes_eq name (codes "replay") then Some replay
@@ -217,7 +217,7 @@ command_named name =
     else (if bytes_eq name (codes "explain") then Some explain
     else (if bytes_eq name (codes "load") then Some load else None))))))
 
--- The command that the first argument names.
+-- The command that the first argument names, or `None` if there is no argument or it names no command.
 unfoldable pub command_of : List Text → Option CommandDefinition
 command_of [] = None
 command_of (name ∷ arguments) = command_named name

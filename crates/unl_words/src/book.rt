@@ -13,7 +13,8 @@ use unl_tokens::{BadBook, Book};
 
 /// Builds the token book (the list of known tokens) from the client and frontend tokens in the arguments of `upstream`.
 /// Each token has the projects that its text names. The book is read from the response that a token server would give
-/// for these texts. It is empty if the response can't be read, which happens only for texts that the arguments don't allow.
+/// for these texts. It is empty if the response can't be read, which happens only for texts that the arguments don't
+/// allow.
 ///
 /// # Errors
 /// The only error is out of memory.
@@ -21,7 +22,7 @@ use unl_tokens::{BadBook, Book};
 pub fn own_book(alloc: Global, clients: &List<Text>, frontends: &List<Text>) -> Result<Book, Memory>
     ensures book { IfOk result (λ book. book ≡ own_book clients.now frontends.now) }
 
-    // If the arguments are in their ranges, the book has a token for every text.
+    // If the arguments are in their ranges, the response can be read, and the book is what is read from it.
     ensures whole { are_own_tokens clients.now ≡ true → are_own_tokens frontends.now ≡ true → fit_one_book clients.now frontends.now ≡ true
         → book_of (own_answer clients.now frontends.now) ≡ Ok (own_book clients.now frontends.now) }
 {
@@ -64,7 +65,7 @@ fn entries_of(alloc: Global, kind: &str, texts: &[Text]) -> Result<Vec<Value>, M
     Ok(entries)
 }
 
-/// Returns a token's text as an entry of the given kind.
+/// Returns the entry, in a token server's response, for a token with this text and kind.
 #[tactic(auto, unfolding(crate::specs::OwnBook::own_entry))]
 fn own_entry(alloc: Global, kind: &str, text: &Text) -> Result<Value, Memory>
     ensures { IfOk result (λ value. view value ≡ own_entry kind.now text.now) }

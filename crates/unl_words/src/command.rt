@@ -28,7 +28,7 @@ pub(crate) fn named<'a>(alloc: Global, name: CommandName) -> Result<Command<'a>,
     }
 }
 
-/// `replay` has no options.
+/// Returns clap's definition of `replay`, which has no options.
 #[tactic(auto, unfolding(crate::specs::Words::replay_app))]
 fn replay<'a>(alloc: Global) -> Command<'a>
     ensures { app_of result ≡ replay_app }
@@ -36,7 +36,7 @@ fn replay<'a>(alloc: Global) -> Command<'a>
     Command::new(alloc, "replay")
 }
 
-/// `check` has options for the time and the random word of its evaluations.
+/// Returns clap's definition of `check`, which has options for the time and the random word of its evaluations.
 #[tactic(auto, unfolding(crate::specs::Words::check_app))]
 fn check<'a>(alloc: Global) -> Result<Command<'a>, AllocError>
     ensures { IfOk result (λ command. app_of command ≡ check_app) }
@@ -44,7 +44,7 @@ fn check<'a>(alloc: Global) -> Result<Command<'a>, AllocError>
     with_options(alloc, Command::new(alloc, "check"), &["now", "word"], false)
 }
 
-/// `edge` requires its upstream and both lists of tokens.
+/// Returns clap's definition of `edge`, which requires its upstream and both lists of tokens.
 #[tactic(auto, unfolding(crate::specs::Words::edge_app))]
 fn edge<'a>(alloc: Global) -> Result<Command<'a>, AllocError>
     ensures { IfOk result (λ command. app_of command ≡ edge_app) }
@@ -56,7 +56,7 @@ fn edge<'a>(alloc: Global) -> Result<Command<'a>, AllocError>
     with_options(alloc, command, &others, false)
 }
 
-/// `upstream` requires its secret and its environments.
+/// Returns clap's definition of `upstream`, which requires its secret and its environments.
 #[tactic(auto, unfolding(crate::specs::Words::upstream_app))]
 fn upstream<'a>(alloc: Global) -> Result<Command<'a>, AllocError>
     ensures { IfOk result (λ command. app_of command ≡ upstream_app) }
@@ -74,7 +74,7 @@ fn upstream<'a>(alloc: Global) -> Result<Command<'a>, AllocError>
     with_options(alloc, command, &others, false)
 }
 
-/// `follow` requires its upstream, its token and its feature.
+/// Returns clap's definition of `follow`, which requires its upstream, its token and its feature.
 #[tactic(auto, unfolding(crate::specs::Words::follow_app))]
 fn follow<'a>(alloc: Global) -> Result<Command<'a>, AllocError>
     ensures { IfOk result (λ command. app_of command ≡ follow_app) }
@@ -85,7 +85,7 @@ fn follow<'a>(alloc: Global) -> Result<Command<'a>, AllocError>
     with_options(alloc, command, &others, false)
 }
 
-/// `explain` has no options.
+/// Returns clap's definition of `explain`, which has no options.
 #[tactic(auto, unfolding(crate::specs::Words::explain_app))]
 fn explain<'a>(alloc: Global) -> Command<'a>
     ensures { app_of result ≡ explain_app }
@@ -93,7 +93,7 @@ fn explain<'a>(alloc: Global) -> Command<'a>
     Command::new(alloc, "explain")
 }
 
-/// `load` requires its seed and its count.
+/// Returns clap's definition of `load`, which requires its seed and its count.
 #[tactic(auto, unfolding(crate::specs::Words::load_app))]
 fn load<'a>(alloc: Global) -> Result<Command<'a>, AllocError>
     ensures { IfOk result (λ command. app_of command ≡ load_app) }
@@ -101,7 +101,7 @@ fn load<'a>(alloc: Global) -> Result<Command<'a>, AllocError>
     with_options(alloc, Command::new(alloc, "load"), &["seed", "count"], true)
 }
 
-/// Adds an option for each name.
+/// Adds an option for each name. All of them are required, or none.
 fn with_options<'a>(
     alloc: Global,
     command: Command<'a>,

@@ -56,8 +56,8 @@ pub(crate) fn tokens(alloc: Global, given: Option<&str>) -> Result<List<Text>, W
     accepted(items, pass)
 }
 
-/// Reads the tokens of one kind that an upstream knows, each with one project or all projects. Returns an empty list if the
-/// option is absent.
+/// Reads the tokens of one kind that an upstream knows, each with one project or all projects. Returns an empty list if
+/// the option is absent.
 pub(crate) fn own_tokens(alloc: Global, given: Option<&str>) -> Result<List<Text>, WordsRefusal>
     ensures gives { Gives memory result (or_empty (items_of are_own_tokens) (option_copied given.entry)) }
     ensures valid { IfOk result (λ items. are_own_tokens items ≡ true) }
@@ -67,7 +67,7 @@ pub(crate) fn own_tokens(alloc: Global, given: Option<&str>) -> Result<List<Text
     accepted(items, pass)
 }
 
-/// Returns the items if they pass the test.
+/// Returns the items if `pass` is true, otherwise `Bad`.
 fn accepted(items: List<Text>, pass: bool) -> Result<List<Text>, WordsRefusal>
     ensures { result ≡ passed pass items }
 {

@@ -18,43 +18,47 @@ use crate::{
 use clap::ArgMatches;
 use std::alloc::Global;
 
-/// The latest time that `--now` accepts, in milliseconds since 1970 (chosen by this project).
+/// The latest time that `--now` accepts, in milliseconds since 1970. The limit is chosen by this project.
 const LAST_MOMENT: u64 = 100_000_000_000_000;
 
-/// Reads the arguments of a command line, without the name of the program. The first argument names the command. Clap parses
-/// the others as a simple command of their own, in which each option has one value after its long name. A number consists of
-/// one or more ASCII digits. A list has commas between its items; the items are trimmed, and empty ones are dropped.
+/// Reads the arguments of a command line, without the name of the program. The first argument names the command. Clap
+/// parses the others as a command without subcommands, in which each option has one value after its long name. A number
+/// consists of one or more ASCII digits. A list has commas between its items; the items are trimmed, and empty ones are
+/// dropped.
 ///
 /// - `replay` has no options.
-/// - `check` has `--now`, a time of at most 100,000,000,000,000 milliseconds, and `--word`, an unsigned 64-bit number.
-///   Each defaults to 0.
-/// - `edge` has `--port` (default 3063), `--upstream` `HOST:PORT`, which is split at its last colon, `--upstream-tokens`, 1
-///   to 8 with distinct environments, `--tokens`, 1 to 1,024, `--host` (default empty), `--workers`, 1 to 16 (default 4),
-///   `--interval`, 1 to 3,600 (default 15), `--connections`, an unsigned 64-bit number (default 0), and `--mode`, `feed` or
-///   `delta` (default `delta`). The upstream and both lists are required.
+/// - `check` has `--now`, a time of at most 100,000,000,000,000 milliseconds since 1970, and `--word`, an unsigned
+///   64-bit number. Each defaults to 0.
+/// - `edge` has `--port` (default 3063), `--upstream` `HOST:PORT`, which is split at its last colon,
+///   `--upstream-tokens`, 1 to 8 tokens with distinct environments, `--tokens`, 1 to 1,024 tokens, `--host` (default
+///   empty), `--workers`, 1 to 16 (default 4), `--interval`, 1 to 3,600 seconds (default 15), `--connections`, an
+///   unsigned 64-bit number (default 0), and `--mode`, `feed` or `delta` (default `delta`). The upstream and both lists
+///   of tokens are required.
 /// - `upstream` has `--port` (default 4242), `--secret`, which isn't empty, `--environments`, 1 to 8 distinct names,
-///   `--client-tokens` and `--frontend-tokens` (default empty), together at most 1,024 distinct texts, each with one project
-///   or all projects, `--connections` (default 0), `--epoch`, an unsigned 64-bit number (default 0), and `--keep`, `memory`
-///   or `sqlite` (default `memory`). The secret and the environments are required.
-/// - `follow` has `--upstream` `HOST:PORT`, `--token`, `--feature`, a name, `--context`, a query that `Context::read_query`
-///   accepts (default empty), `--mode` as for `edge`, `--turns`, 1 to 1,000,000 (default 1), and `--interval` as for `edge`.
-///   The first three are required. The context's environment is set to that of the token.
+///   `--client-tokens` and `--frontend-tokens` (default empty), together at most 1,024 distinct texts, each with one
+///   project or all projects, `--connections` as for `edge`, `--epoch`, an unsigned 64-bit number (default 0), and
+///   `--keep`, `memory` or `sqlite` (default `memory`). The secret and the environments are required.
+/// - `follow` has `--upstream` `HOST:PORT`, `--token`, `--feature`, a name, `--context`, a query that
+///   `Context::read_query` accepts (default empty), `--mode` as for `edge`, `--turns`, 1 to 1,000,000 (default 1), and
+///   `--interval` as for `edge`. The first three are required. The context's environment is set to that of the token.
 /// - `explain` has no options.
 /// - `load` has `--seed`, an unsigned 64-bit number, and `--count`, 1 to 1,000,000. Both are required.
 ///
-/// A port is 1 to 65535. A token's text has at most 512 bytes and is accepted by `Scope::read`, and its environment and
-/// projects are names. Hosts, secrets and tokens contain no carriage return, line feed or NUL.
+/// A port is 1 to 65535. A name has 1 to 255 bytes. A token's text has at most 512 bytes and is accepted by
+/// `Scope::read`, and its environment and projects are names. Hosts, secrets and tokens contain no carriage return,
+/// line feed or NUL.
 ///
 /// # Errors
 ///
-/// - `Bad`: there are no arguments, the first names no command, clap rejects the others (including `--help`), or a value is
-///   outside its range.
+/// - `Bad`: there are no arguments, the first names no command, clap rejects the others (as it does `--help`), or a
+///   value is outside its range.
 /// - `Memory`: out of memory.
 #[tactic(auto, unfolding(crate::specs::Words::words_of))]
 pub fn read_words(alloc: Global, words: &[String]) -> Result<Words, WordsRefusal>
-    // The result depends only on what clap finds in the arguments and on the ranges of the values.
+    // The result is what the definition `words_of` gives for the arguments, or the error `Memory`.
     ensures exact { Gives Memory result (words_of (map string_bytes words.now)) }
-    // If clap's definition accepts the arguments, the result depends only on the ranges of the values.
+    // If the first argument names a command, and clap accepts the others for it, the result is what the command
+    // makes of the values that clap finds (`Bad` if one is outside its range), or the error `Memory`.
     ensures decided { (command : CommandDefinition) → command_of (map string_bytes words.now) ≡ Some command
         → DecidedByRanges command (map string_bytes words.now) result }
     // The values are in their ranges.
@@ -66,7 +70,7 @@ pub fn read_words(alloc: Global, words: &[String]) -> Result<Words, WordsRefusal
     }
 }
 
-/// Reads the arguments of a command.
+/// Reads the arguments of the command with this name. The first argument is the name itself.
 fn read_command(
     alloc: Global,
     name: CommandName,
@@ -212,7 +216,7 @@ fn port_or(matches: &ArgMatches<'_>, default: u64) -> Result<u16, WordsRefusal>
     Ok(port as u16)
 }
 
-/// Reads the number in an option, within two bounds of 32 bits. Returns the default if the option is absent.
+/// Reads the number in an option, within bounds that fit in 32 bits. Returns the default if the option is absent.
 fn short_number(
     matches: &ArgMatches<'_>,
     name: &str,

@@ -14,7 +14,8 @@ use unl_documents as documents;
 /// Why the arguments of a command line are refused.
 #[derive(Clone, Copy, Debug, PartialEq, Eq, Error)]
 pub enum WordsRefusal {
-    /// There are no arguments, the first names no command, clap rejects the arguments after the name, or a value is outside its range.
+    /// There are no arguments, the first names no command, clap rejects the arguments after it, or a value is outside
+    /// its range.
     #[error("the arguments are not accepted")]
     Bad,
     /// Out of memory.

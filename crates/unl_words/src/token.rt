@@ -11,8 +11,8 @@ use unl_documents::texts::is_name;
 use unl_documents::{List, Memory, Text};
 use unl_tokens::{BadToken, Projects, Scope};
 
-/// Returns the environments of tokens, in their order. The environment is empty if a text can't be read as a token. The only
-/// error is out of memory.
+/// Returns the environments of tokens, in their order. The environment is empty if a text can't be read as a token. The
+/// only error is out of memory.
 pub fn token_environments(alloc: Global, tokens: &List<Text>) -> Result<List<Text>, Memory>
     ensures { IfOk result (λ environments. environments ≡ map environment_of tokens.now) }
 {
@@ -29,7 +29,8 @@ fn environments(alloc: Global, tokens: &[Text]) -> Result<List<Text>, Memory>
     Ok(environments)
 }
 
-/// Returns the environment of a token, or an empty text if the argument can't be read as one. The only error is out of memory.
+/// Returns the environment of a token, or an empty text if the argument can't be read as a token. The only error is out
+/// of memory.
 pub fn token_environment(alloc: Global, token: &str) -> Result<Text, Memory>
     ensures { IfOk result (λ environment. environment ≡ environment_of token.now) }
 {
@@ -40,7 +41,7 @@ pub fn token_environment(alloc: Global, token: &str) -> Result<Text, Memory>
     }
 }
 
-/// Whether each text is a token, as by [`is_token`].
+/// Whether each text is a token, as defined at [`is_token`].
 pub(crate) fn all_tokens(alloc: Global, texts: &[Text], may_be_open: bool) -> Result<bool, Memory>
     ensures { IfOk result (λ all. all ≡ list_all (is_token may_be_open) texts.now) }
 {

@@ -1,4 +1,5 @@
-//! Reads option values that are not numbers or lists: addresses, secrets, names, modes and a context.
+//! Reads option values that are not numbers or lists: addresses, secrets, tokens, names, lines, modes and a context.
+//! Where no default is stated, an absent option is refused.
 ghost use Rattle.std.specs.Prelude.{◌≡◌, ◌<◌, true, Ok, IfOk, option_copied, option_map};
 ghost use Rattle.std.specs.List.{list_all};
 ghost use Rattle.std.specs.Path.{rsplit_once};
@@ -21,7 +22,7 @@ use unl_context::Context;
 use unl_documents::Text;
 use unl_documents::texts::is_name;
 
-/// Returns the value of an option, if it is present.
+/// Returns the value of an option, or `None` if the option is absent.
 pub(crate) fn given<'a>(matches: &ArgMatches<'a>, name: &str) -> Option<&'a str>
     ensures { option_copied result ≡ first_of name.now (rows_of (found_of matches.now)) }
 {
@@ -96,8 +97,8 @@ pub(crate) fn secret(alloc: Global, given: Option<&str>) -> Result<Text, WordsRe
     }
 }
 
-/// Reads an address `HOST:PORT`, split at its last colon. The host is a nonempty text without carriage return, line feed or
-/// NUL.
+/// Reads an address `HOST:PORT`, split at its last colon. The host is a nonempty text without carriage return, line
+/// feed or NUL.
 pub(crate) fn address(alloc: Global, given: Option<&str>) -> Result<Text, WordsRefusal>
     ensures gives { Gives Memory result (required address_of (option_copied given.entry)) }
     ensures valid { IfOk result (λ text. is_address text ≡ true) }
@@ -108,7 +109,8 @@ pub(crate) fn address(alloc: Global, given: Option<&str>) -> Result<Text, WordsR
     }
 }
 
-/// Reads the mode: true for `delta` (only changes are requested), which is the default, and false for `feed` (whole feeds).
+/// Reads the mode: true for `delta` (only changes are requested), which is the default, and false for `feed` (whole
+/// feeds).
 pub(crate) fn mode_or_delta(given: Option<&str>) -> Result<bool, WordsRefusal>
     ensures { result ≡ mode_or_delta (option_copied given.entry) }
 {
@@ -119,7 +121,8 @@ pub(crate) fn mode_or_delta(given: Option<&str>) -> Result<bool, WordsRefusal>
     }
 }
 
-/// Reads the storage: true for `sqlite` (commands are kept in a database), and false for `memory`, which is the default.
+/// Reads where commands are kept: true for `sqlite` (a database in memory), and false for `memory` (a list), which is
+/// the default.
 pub(crate) fn sqlite_or_memory(given: Option<&str>) -> Result<bool, WordsRefusal>
     ensures { result ≡ sqlite_or_memory (option_copied given.entry) }
 {
@@ -130,7 +133,7 @@ pub(crate) fn sqlite_or_memory(given: Option<&str>) -> Result<bool, WordsRefusal
     }
 }
 
-/// Returns a copy of the text if it passes the test.
+/// Returns a copy of the text if `passes` is true, otherwise `Bad`.
 fn accepted(alloc: Global, text: &str, passes: bool) -> Result<Text, WordsRefusal>
     ensures gives { Gives Memory result (passed passes text.now) }
     ensures passes { IfOk result (λ copy. (copy ≡ text.now) × (passes ≡ true)) }

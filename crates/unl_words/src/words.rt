@@ -38,7 +38,7 @@ pub struct EdgeArguments {
     pub port: u16,
     /// The upstream's `HOST:PORT`.
     pub upstream: Text,
-    /// 1 to 8 tokens for the upstream, with distinct environments. The edge has one slot for
+    /// The tokens that the edge sends to the upstream: 1 to 8, with distinct environments. The edge has one slot for
     /// each token, in this order.
     pub upstream_tokens: List<Text>,
     /// The tokens that the edge may accept from clients, if the upstream knows them: 1 to 1,024.
@@ -66,7 +66,7 @@ pub struct UpstreamArguments {
     pub environments: List<Text>,
     /// The tokens that edges and backends may use. Together with `frontend_tokens` at most 1,024, with distinct texts.
     pub client_tokens: List<Text>,
-    /// The tokens that browsers may use.
+    /// The tokens that browsers may use. The limit on their number is that of `client_tokens`.
     pub frontend_tokens: List<Text>,
     /// The number of connections after which the port is closed, or 0 for never.
     pub connections: u64,
