@@ -11,12 +11,12 @@ use Rattle.unl_workers.specs.declared.tally.QueueTally.{QueueTally}
 use Rattle.unl_workers.specs.Tallies.{weigh, empty_tally}
 
 module _ {L : Type 0} where
-  -- the weight of an entry: that of the link, or 0 for the end
+  -- the weight of an entry: that of the link, or 0 for the end marker
   abbrev pub of_link : (L → ℕ) → QueueEntry L → ℕ
   of_link h (Link link) = h link
   of_link h End = 0
 
-  -- the weight that counts ends: 1 for the end, 0 for a link
+  -- the weight that counts end markers: 1 for an end marker, 0 for a link
   abbrev pub of_end : QueueEntry L → ℕ
   of_end (Link link) = 0
   of_end End = 1
@@ -25,23 +25,23 @@ module _ {L : Type 0} where
   abbrev pub links_in : List (QueueEntry L) → ℕ
   links_in items = weigh (of_link (λ _. 1)) items
 
-  -- the number of ends among the entries
+  -- the number of end markers among the entries
   abbrev pub ends_in : List (QueueEntry L) → ℕ
   ends_in items = weigh of_end items
 
-  -- the number of links behind the first end
+  -- the number of links behind the first end marker
   abbrev pub late : List (QueueEntry L) → ℕ
   late [] = 0
   late (Link link ∷ items) = late items
   late (End ∷ items) = links_in items
 
-  -- just one pass may put links, and the end marker was neither put nor taken
+  -- exactly one pass may put links, and the end marker was neither put nor taken
   pub record IsOpenQueue (items : List (QueueEntry L)) (views : List (QueueTally L)) : Type 0 where
     pub may_put : weigh (λ v. v.may_put) views ≡ 1
     pub ends_seen : weigh (λ v. v.ends_seen) views ≡ 0
     pub ends : ends_in items ≡ 0
 
-  -- No pass may put links, and no link is behind an end. Once the end was taken, no link is queued.
+  -- No pass may put links, and no link is behind an end marker. Once the end marker was taken, no link is queued.
   pub record IsClosedQueue (items : List (QueueEntry L)) (views : List (QueueTally L)) : Type 0 where
     pub may_put : weigh (λ v. v.may_put) views ≡ 0
     pub late : late items ≡ 0

@@ -7,7 +7,8 @@ use Rattle.unl_workers.specs.Tallies.{tally}
 use Rattle.unl_workers.specs.declared.tally.QueueTally.{QueueTally}
 
 module _ {L : Type 0} (left sent : L → Option (List ℕ)) (faults : L → ℕ) where
-  -- an open door handed out these links, one after another, each with the bytes that the door's state lists for it, and nothing sent
+  -- an open door handed out these links, one after another: each has the bytes that the door's state lists for it, and no sent bytes or
+  -- faults
   abbrev pub HandsOutEach : List L → DoorState → DoorState → Type 0
   HandsOutEach [] before after = after ≡ before
   HandsOutEach (link ∷ links) before after = (middle : DoorState) × IsOpenDoor before × (middle ≡ handing_out middle.closed before)
@@ -21,7 +22,7 @@ module _ {L : Type 0} (left sent : L → Option (List ℕ)) (faults : L → ℕ)
     pub put : view_after ≡ tally view_before.parts (view_before.put ++ links) view_before.taken may_put view_before.ends_seen
     pub handed : HandsOutEach links before after
 
-  -- `count` links were handed out and put into the queue
+  -- `count` links were handed out and put into the queue; `may_put` as above
   abbrev pub QueuesAll : ℕ → ℕ → QueueTally L → DoorState → QueueTally L → DoorState → Type 0
   QueuesAll may_put count view_before before view_after after =
       (links : List L) × QueuesLinks may_put links view_before before view_after after × (length links ≡ count)

@@ -19,7 +19,7 @@ pub record ServedAt
       (serving after.server (coming_of after.draws))
   pub counted : length links ≡ after.links
 
--- each slot served its share, a list of links
+-- each slot served its share, a list of links; there are as many shares as slots before and slots after
 abbrev pub ServedAtEach :
     {S R L : Type 0} → (S → Coming → LinkView → LinkView → S → Coming → Type 0) → (R → Coming) → (L → LinkView)
     → List (List L) → List (WorkerSlot S R) → List (WorkerSlot S R) → Type 0

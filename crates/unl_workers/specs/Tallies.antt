@@ -41,12 +41,12 @@ module _ {L : Type 0} where
   both_tallies v w =
       tally (v.parts + w.parts) (v.put ++ w.put) (v.taken ++ w.taken) (v.may_put + w.may_put) (v.ends_seen + w.ends_seen)
 
-  -- the tally after an entry was put: a link, or the end, after which the pass may not put links
+  -- the tally after an entry was put: a link, or the end marker, after which the pass may not put links
   abbrev pub putting : QueueTally L → QueueEntry L → QueueTally L
   putting v (Link link) = tally v.parts (v.put ++ link ∷ []) v.taken v.may_put v.ends_seen
   putting v End = tally v.parts v.put v.taken 0 v.ends_seen
 
-  -- the tally after an entry was taken: a link, or the end
+  -- the tally after an entry was taken: a link, or the end marker (the entry that closes the queue)
   abbrev pub taking : QueueTally L → QueueEntry L → QueueTally L
   taking v (Link link) = tally v.parts v.put (v.taken ++ link ∷ []) v.may_put v.ends_seen
   taking v End = tally v.parts v.put v.taken v.may_put 1

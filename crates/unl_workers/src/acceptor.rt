@@ -99,7 +99,7 @@ where
     }
 }
 
-/// Accepts links until the door is closed or fails, and puts each into the queue.
+/// Accepts links until the door is closed or fails, and puts each into the queue. Blocks while the queue is full.
 fn accept_all<D: Door, W: Wait>(
     rt: &W,
     queue: &LinkQueue<D::L>,

@@ -8,8 +8,8 @@ use std::alloc::Global;
 use std::sync::Wait;
 use unl_base::{Job, Pace};
 
-/// A task that is repeated: each turn does its work once. An implementation must not own a value whose type isn't `Drop`:
-/// it holds a `&mut` to each such value, each with a lifetime parameter of its own.
+/// A task that is repeated: each turn does its work once. An implementation must not own a value whose type isn't
+/// `Drop`: it holds a `&mut` to each such value, each with a lifetime parameter of its own.
 pub trait PeriodicTask {
     /// The effect of a turn: the task before and after it.
     ghost turned: { Self → Self → Type 0 };
@@ -81,8 +81,8 @@ impl<'a, 'n, 'p, N: PeriodicTask, T: Pace, L, W: Wait> Job for PeriodicJob<'a, '
     fn cancel(&mut self) {}
 }
 
-/// Makes turns until the pace ends or the queue is closed. Returns how many were made. After 2^64 - 1 turns it waits for
-/// ever.
+/// Makes turns until the pace ends or the queue is closed. Returns how many were made. After 2^64 - 1 turns it never
+/// returns.
 fn make_turns<N: PeriodicTask, T: Pace, L, W: Wait>(
     alloc: Global,
     rt: &W,

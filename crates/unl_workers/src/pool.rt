@@ -43,13 +43,14 @@ pub enum PoolFault {
     Memory,
 }
 
-/// Accepts the links of a door on this thread until it is closed or fails. Concurrently, each in a thread of its own, one
-/// worker for each slot serves them, and `turn` runs at a pace until the pace ends or no more links are accepted. If the door
-/// fails, the links that it handed out before are served as well. May block.
+/// Accepts the links of a door on this thread until the door is closed or fails. Concurrently, each in a thread of its
+/// own, one worker for each slot serves them, and `turn` runs at a pace until the pace ends or no more links are
+/// accepted. If the door fails, the links that it handed out before are served as well. May block. Without a slot no
+/// link is served, and the call never returns if the door hands out more than 64.
 ///
 /// # Errors
-/// `Spawner` if a job couldn't be started, and `Memory` if memory for the queue or the jobs runs out. No link was accepted
-/// then, and the slots are dropped.
+/// `Spawner` if a job couldn't be started, and `Memory` if memory for the queue or the jobs runs out. No link was
+/// accepted then, and the slots are dropped.
 pub fn run_pool<S, R, D: Door, N, T, P: Spawner, W: Wait + Sync>(
     alloc: Global,
     rt: &W,
@@ -110,7 +111,8 @@ where
 type Prepared<S, R, B> = Result<(AcceptOutcome, Vec<WorkerSlot<S, R>>, B), PoolFault>;
 
 /// Runs an acceptor on this thread, and workers and another job concurrently, none of which has started yet. Returns
-/// the door, and the slots of the workers in the vector `room`.
+/// the door, and with it the outcome of accepting, the slots of the workers (in the vector `room`) and the other job,
+/// or why the pool did not run.
 fn run_prepared<'a, S, R, D: Door, P: Spawner, B: Job, W: Wait + Sync>(
     spawner: &mut P,
     queue: &LinkQueue<D::L>,

@@ -40,8 +40,8 @@ impl<'a, S: LinkHandler, R: Draws, L: Link + Drop, W: Wait, B: Job> Job
     fn cancel(&mut self) {}
 }
 
-/// Creates a worker for each slot (a server and its draws), each with a pass of its own that is split off from
-/// `pass`. The vector of workers has capacity for one more job. Also returns an empty vector with capacity for all slots.
+/// Creates a worker for each slot (a server and its draws), each with a pass of its own that is split off from `pass`.
+/// The vector of workers has capacity for one more job. Also returns an empty vector with capacity for all slots.
 ///
 /// # Errors
 /// Out of memory.
@@ -104,7 +104,8 @@ fn new_worker<'a, S, R, L, W>(
 /// Runs workers and another job concurrently, and `here` on this thread. Returns `here`, the workers and the other job.
 ///
 /// # Errors
-/// `NotStarted`: a job couldn't be started, and the spawner increments its fault count. `Memory`: out of memory.
+/// `NotStarted`: a job couldn't be started, and the spawner increments its fault count. `Memory`: out of memory. In
+/// both cases `here` was cancelled, and the jobs are dropped.
 pub(crate) fn run_jobs<'a, S, R, L, W, P: Spawner, B: Job, M: Job>(
     spawner: &mut P,
     workers: Vec<PoolJob<'a, S, R, L, W, B>>,

@@ -105,8 +105,8 @@ impl<L: Drop> LinkQueue<L> {
         self.push::<PutsEntry, W>(rt, pass, QueueEntry::Link(link), MOST_LINKS);
     }
 
-    /// Closes the queue: no more links come from now on. Wakes every thread that waits for a link. Queued links are
-    /// still taken.
+    /// Closes the queue: no more links come from now on. The threads that wait for a link are woken one after another.
+    /// Queued links are still taken.
     pub fn close<W: Wait>(&self, rt: &W, pass: &mut QueuePass<L>)
         requires queue { IsPassOfQueue self.now pass.old }
         requires parts { 0 < (view pass.old).parts }
@@ -137,7 +137,7 @@ impl<L: Drop> LinkQueue<L> {
         }
     }
 
-    /// Appends an entry. Blocks while `most` entries are queued.
+    /// Appends an entry. Blocks while `most` or more entries are queued.
     fn push<M: Outcome<QueueEntry<L>, QueueTally<L>>, W: Wait>(
         &self,
         rt: &W,

@@ -65,7 +65,7 @@ impl<L> LinkState<L> {
         })
     }
 
-    /// Appends a link. Returns it exactly if 64 are queued. Allocates nothing.
+    /// Appends a link. If 64 links are queued, returns the link instead; otherwise returns `None`. Allocates nothing.
     pub fn push(&mut self, link: L) -> Option<L>
         ensures { Pushes self.old link result self.new }
     {

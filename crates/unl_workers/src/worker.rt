@@ -1,4 +1,4 @@
-//! Workers, which serve links.
+//! Workers. Each takes links from a queue and serves them, one after another.
 ghost use Rattle.std.specs.Prelude.{◌≡◌, ◌<◌};
 ghost use Rattle.crossbeam_queue.specs.Passes.{view, IsSamePass};
 ghost use Rattle.unl_server.specs.Links.{link_view};

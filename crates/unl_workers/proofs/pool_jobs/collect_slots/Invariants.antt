@@ -7,7 +7,7 @@ use Rattle.unl_workers.specs.Tallies.{tally}
 use Rattle.unl_workers.specs.Pool.{slot_of, taken_by, worker_of}
 use Rattle.unl_workers.proofs.pool_jobs.collect_slots.Given as goal
 
--- the passes of the workers so far were joined, and those of the others remain
+-- the passes of the workers so far were joined, and those of the other workers remain
 abbrev pub invariant-loop-job : goal.invariant-loop-job
 invariant-loop-job g l = record {
   same : IsSamePass l.initial.pass l.pass;
