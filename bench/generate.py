@@ -1,8 +1,8 @@
 """The lines of a replay over many features, which bench/measure.py measures. They depend only on the number of features.
 
-A feature has two strategies. The first one has two constraints and names a segment. One of these constraints has a list of values:
-5 for most features, 20 for some, 1,000 for few. Three of ten features have two variants. The documents stay below the limit of
-16,777,216 bytes.
+A feature has two strategies. The first one has two constraints and names a segment. One of these constraints, on the country, has 5
+values for most features, 20 for one in ten, and 1,000 for one in 500. Three of ten features have two variants. The documents stay
+below the limit of 16,777,216 bytes.
 """
 import json
 import random
@@ -87,7 +87,7 @@ def changes(count, size, segments, after, step):
 
 
 def kinds(size):
-    """The lines of a replay over `size` features, by the name of their kind, in order."""
+    """The lines of a replay over `size` features, in order: a dict from the name of each kind to its lines."""
     segments = max(5, size // 100)
     features = [feature(place, segments) for place in range(size)]
     hydration = {"type": "hydration", "eventId": 1, "features": features, "segments": [segment(1 + it) for it in range(segments)]}

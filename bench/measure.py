@@ -23,7 +23,7 @@ PLAIN = {"GLIBC_TUNABLES": "glibc.cpu.x86_rep_stosb_threshold=1000000000:glibc.c
 
 
 def counts_of(lines):
-    """The instructions of each line: callgrind dumps its counts before each write of an answer."""
+    """The number of instructions of each line: callgrind dumps its counts before each write, and each line is answered by one."""
     with tempfile.TemporaryDirectory() as folder:
         callgrind = ["valgrind", "--tool=callgrind", "--dump-before=write", f"--callgrind-out-file={folder}/out"]
         subprocess.run([*callgrind, PROGRAM, "replay"], stdin=lines, stdout=subprocess.DEVNULL, stderr=subprocess.DEVNULL,

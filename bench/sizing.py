@@ -1,9 +1,11 @@
 """Measures the memory and processor time of an edge and its upstream, and prints the tables of docs/OPERATING.md:
 python3 bench/sizing.py [PROGRAM]
 
-Memory is the resident size after the first turn and a hundred answers of each kind, and the peak after a later epoch was installed.
-Processor time is user plus system time, averaged over many requests. The features are those of bench/generate.py. Both programs
-listen on loopback, at the ports in EDGE_PORT and UPSTREAM_PORT. Takes two minutes on an idle machine.
+Memory is the resident size of both after the edge's first turn and at least a hundred answers of each kind, and the edge's peak after a
+later epoch was installed.
+Processor time is user plus system time: the edge's up to its first feed, and the mean over many requests. The features are
+those of bench/generate.py. Both programs listen on loopback, at the ports in EDGE_PORT and UPSTREAM_PORT. Takes two minutes on an idle
+machine.
 """
 import http.client
 import json

@@ -22,8 +22,8 @@ fail() {
     exit 1
 }
 
-# Prints the first sentence of a file's `//!` comment. Links to code names are removed, and a bar, which would end a table cell, is
-# replaced.
+# Prints the first sentence of a file's `//!` comment. Links to code names are removed, and a bar, which would end a table cell, becomes
+# a slash.
 sentence() {
     awk '
         /^\/\/!/ { sub(/^\/\/! ?/, ""); text = text (text == "" ? "" : " ") $0; next }

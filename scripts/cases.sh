@@ -1,7 +1,7 @@
 #!/bin/sh
-# Runs each case in examples/cases through the program, and compares its output and exit status with those of the case. The comment
-# at the top of replay.cases describes the format of a case. Run after `rt ci` or `rt run`, which build the program; PROGRAM names
-# another one.
+# Runs each case in examples/cases through the program, and compares the output and exit status with those that the case states. The
+# comment at the top of examples/cases/replay.cases describes the format of a case. Run after `rt ci` or `rt run`, which build the
+# program. The variable PROGRAM names another program to test.
 set -uf
 cd "$(dirname "$0")/.."
 
@@ -10,7 +10,7 @@ test -x "$program" || (cd crates/unl_edge && rt run -- replay </dev/null >/dev/n
 split=$(mktemp -d)
 trap 'rm -rf "$split"' EXIT
 
-# Writes N.words (the arguments), N.in, N.status and N.out for the N-th case.
+# Writes four files for the N-th case: N.words (the arguments), N.in (the input), N.status and N.out (the expected status and output).
 set +f
 cat examples/cases/*.cases | awk -v to="$split" '
     function ended(text) {

@@ -1,8 +1,8 @@
 #!/bin/sh
 # Tests the files under deploy/. systemd-analyze verifies the units and their sandboxing; this part is skipped without it. The command
-# of each unit runs with the arguments shown at the top of the unit, read from a file, and the edge serves its upstream's features. If
-# a docker daemon runs, the image is built and stops promptly at `docker stop`. scripts/nginx.sh tests nginx.conf. Run after `rt ci`
-# or `rt run`. Skipped if curl is missing.
+# of each unit runs with the arguments shown at the top of the unit, read from a file, so that no secret is on the command line. The
+# edge serves its upstream's features. If a docker daemon runs, the image is built, and a container ends within 8 seconds of
+# `docker stop`. scripts/nginx.sh tests nginx.conf. Run after `rt ci` or `rt run`. Skipped if curl is missing.
 set -u
 cd "$(dirname "$0")/.."
 
@@ -19,7 +19,7 @@ mkdir "$work/bin" "$work/units"
 cp "$program" "$work/bin/unl_edge"
 cp "$keeping" "$work/bin/unl_durable_upstream"
 
-# prints a unit with the programs, files and ports of this script
+# prints a unit of deploy/, with the paths and the upstream's port replaced by those of this script: the name of the unit
 unit() {
     sed -e "s#/usr/local/bin#$work/bin#; s#/etc/unl/#$work/#; s#127.0.0.1:4242#127.0.0.1:$upstream_port#" "deploy/$1.service"
 }
@@ -44,7 +44,7 @@ else
     echo "${0##*/}: the units are not shown to systemd, since systemd-analyze is not there"
 fi
 
-# ---- the command of each unit, as systemd would run it
+# ---- the command of each unit, as systemd would run it: the name of the unit, a port, and a file for the input
 run_unit() {
     {
         sed -n 's/^#     //p' "deploy/$1.service"

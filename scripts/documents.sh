@@ -1,7 +1,8 @@
 #!/bin/sh
 # Runs the lines after a `$` in README and OPERATING, and compares what they print with the output shown there. Also checks that each
-# input under examples/ has an output file, or a name that begins with the command that reads it. Run after `rt ci` or `rt run`.
-# Skipped if python3 or curl is missing, or if the script can't get a network namespace and a port of the documents is taken.
+# input under examples/ has an output file, or a name that begins with `upstream-` as an input of the command `upstream`. Run after
+# `rt ci` or `rt run`. Skipped if python3 or curl is missing, or if the script can't get a network namespace and a port of the
+# documents is taken.
 set -u
 cd "$(dirname "$0")/.."
 

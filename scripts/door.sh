@@ -1,10 +1,10 @@
 #!/bin/sh
 # Shows that slow clients don't delay others, at an upstream and at an edge with 4 workers. Covers slow heads, slow bodies, slow
-# readers, many idle connections, requests split at each byte, sessions with a round trip of 40 ms, an upstream that trickles, a server
-# that is stopped for a moment, and a log that nobody reads. A well-behaved client waits at most 2 seconds, and no request of a session
-# fails. Each play is judged once: one late answer fails it. A plain server in Python is polled all the time. Only if an answer of that
-# one was late at the same time too, which shows that the machine stalled, the play is repeated, and the last line says so.
-# Also shows how a server ends that can't accept connections any more, or can't wait for them; this is left out if gcc is missing.
+# readers, many idle connections, requests split at each byte, kept connections with a round trip of 40 ms, an upstream that trickles, a
+# server that is stopped for a moment, and a log that nobody reads. A well-behaved client waits at most 2 seconds, and no request on a
+# kept connection fails. One late answer fails a scenario, unless the machine stalled: a plain server in Python is polled all the time,
+# and a scenario is repeated if each of its late answers came while that server's answer was late too. The last line says so then.
+# Also shows how a server ends that can't accept connections any more, or can't wait for events on them; left out if gcc is missing.
 # Takes about a minute. Run after `rt ci` or `rt run`. Skipped if python3 or curl is missing.
 set -u
 cd "$(dirname "$0")/.."

@@ -1,7 +1,7 @@
 #!/bin/sh
 # Shows how each command ends when its environment fails. Covers each read and write of a replay, a check, an explanation, a load and
 # an upstream's input lines; a port that is taken; and an upstream that is unreachable or sends bad replies. Also covers the host names
-# of an edge, polls of an unchanged state, and connections of an edge that wait for each other, for its upstream and for its turns.
+# of an edge, polls of an unchanged state, an edge that serves without its upstream, and a connection that is kept over its turns.
 # Takes at most a minute. Run after `rt ci` or `rt run`. Skipped if python3 is missing.
 set -u
 cd "$(dirname "$0")/.."

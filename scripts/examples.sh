@@ -1,6 +1,7 @@
 #!/bin/sh
-# Runs each example through the program and compares its output with the .out file next to it. Run after `rt ci` or `rt run`, which
-# build the program; PROGRAM names another one.
+# Runs each example that has a .out file next to it, and compares the output with that file: explain.json through `explain`, other
+# .json files through `check`, .jsonl files through `replay`. Run after `rt ci` or `rt run`, which build the program. The variable
+# PROGRAM names another program to test.
 set -u
 cd "$(dirname "$0")/.."
 

@@ -1,7 +1,8 @@
 #!/bin/sh
-# Tests hostile input: deeply nested documents, long numbers, heads in many pieces, many requests at once, and connections that are
-# reset, half closed, or left open for the 30 seconds that a server waits. Each input gets its stated status, memory doesn't grow, and
-# the next connection is served. Takes half a minute. Run after `rt ci` or `rt run`. Skipped if python3 or curl is missing.
+# Tests hostile input: deeply nested documents, long numbers, heads in many pieces, many requests at once, and connections that are reset,
+# half closed, or left open for the 30 seconds that a server waits. Each input gets the status that docs/FORMATS.md states, memory doesn't
+# grow by more than 4 MiB, and the next connection is served. Takes half a minute. Run after `rt ci` or `rt run`. Skipped if python3 or curl
+# is missing.
 set -u
 cd "$(dirname "$0")/.."
 
@@ -24,7 +25,7 @@ wait_for "$edge_port" "the edge"
 
 same "hostile bytes" "" "$(python3 scripts/python/hostile.py "$upstream_port" "$upstream" "$edge_port" "$edge" 2>&1)"
 
-# hostile lines, test files and questions on the standard input
+# hostile lines, test files, and questions for `explain`, on the standard input
 deep() {
     head -c 100000 /dev/zero | tr '\0' '['
     head -c 100000 /dev/zero | tr '\0' ']'
@@ -39,7 +40,7 @@ ending() {
     echo "$printed $?"
 }
 
-# the same for an upstream that reads commands as lines
+# prints the output and the status of an upstream that reads its input as lines of commands
 obeying() {
     ending upstream --port "$((upstream_port + 1))" --secret s --environments dev --client-tokens '*:dev.c' --frontend-tokens '*:dev.f'
 }

@@ -1,7 +1,7 @@
 #!/bin/sh
-# Tests an edge with 4 workers and 40 clients that keep their connections open. Most clients poll once a second, some stay silent, and
-# some send a byte a second. Each poll is answered within 3 seconds. The test runs for KEEPALIVE_SECONDS seconds, 60 by default. Run
-# after `rt ci` or `rt run`. Skipped if python3 or curl is missing.
+# Tests an edge with 4 workers and 40 clients that keep their connections open. Most clients poll once a second, some never send a byte,
+# some are idle after a request, and some send a byte a second. Each poll is answered within 3 seconds. The test runs for
+# KEEPALIVE_SECONDS seconds, 60 by default. Run after `rt ci` or `rt run`. Skipped if python3 or curl is missing.
 set -u
 cd "$(dirname "$0")/.."
 

@@ -1,14 +1,14 @@
 #!/bin/sh
 # Tests limits that only long inputs reach: the features and segments of an environment, the events that it keeps, the keys of a
-# metrics book and of a bulk report, and the bytes and lines of an input. Run after `rt ci` or `rt run`, which build the program;
-# PROGRAM names another one.
+# metrics book and of a bulk report, and the bytes and lines of an input. Run after `rt ci` or `rt run`, which build the program. The
+# variable PROGRAM names another program to test.
 set -u
 cd "$(dirname "$0")/.."
 
 program=${PROGRAM:-crates/unl_edge/out/unl_edge}
 test -x "$program" || (cd crates/unl_edge && rt run -- replay </dev/null >/dev/null 2>&1)
 
-# same WHAT EXPECTED PRINTED
+# same WHAT EXPECTED PRINTED: ends the script with status 1 if the expected text is not the printed one
 same() {
     test "$2" = "$3" || {
         echo "limits: $1: it printed"
@@ -43,8 +43,8 @@ same "segments" 'refused: line 1002: TooMany
 status 3' "$(segments)"
 
 # Sends batches to three environments, and then asks each for its delta since the number 0 and since the number 1. Prints the status,
-# the number of events and the number of hydrations of each answer. The first environment gets one event more than it keeps. So does
-# the second one, in which two events have the number 1: both are dropped. The third one gets as many events as it keeps.
+# the number of events and the number of hydrations of each answer. An environment keeps 1,000 events. The first one gets 1,001. So does
+# the second one, in which two events have the number 1: both are dropped. The third one gets 1,000.
 window() {
     awk '
         function batch(environment, count, twice) {
@@ -75,9 +75,9 @@ same "events that are kept" '200 1 1
 200 1000 0
 200 999 0' "$(window)"
 
-# Reports 10,000 features, then another one, one of the first again, the other one again, and then 10,001 features, one too many for a
-# report. Then the metrics are sent: first as many keys as fit into 1,048,576 bytes, which makes room for the other feature, then the
-# rest.
+# Sends five reports: of the features f0 to f9999, of g0 (the book is full), of f0, of g0, and of 10,001 features, one too many for a
+# report. Then sends the metrics: first as many keys as fit into 1,048,576 bytes, which makes room for g0, then the rest. At last
+# nothing is left to send.
 report() {
     awk '
         function report(letter, count) {

@@ -35,7 +35,7 @@ tag=$(ask "$upstream_port" '*:dev.client' /api/client/features --dump-header - -
 test -n "$tag" || fail "the feed has no tag"
 same "a feed that is known" 304 "$(ask "$upstream_port" '*:dev.client' /api/client/features --header "If-None-Match: $tag" --output /dev/null --write-out '%{http_code}')"
 
-# a replay of the upstream's feed and one of its hydration have the same toggles
+# the toggles are the same after a replay of the upstream's feed, and after a replay of its hydration
 replayed() {
     printf '{"op":"tokens","tokens":[{"token":"*:dev.front","type":"frontend"}]}\n{"op":"%s","environment":"dev","%s":%s}\n%s\n' "$1" "$1" \
         "$(ask "$upstream_port" '*:dev.client' "$2")" '{"op":"ask","token":"*:dev.front","target":"/api/frontend"}' | "$program" replay
@@ -69,7 +69,8 @@ until test "$(ask "$edge_port" '*:dev.front' /api/frontend)" = "{\"toggles\":[$(
     sleep 0.1
 done
 
-# compares the status and body of both servers' answers; ignores the tag in a feed, which depends on the server's start
+# compares the status and body of both servers' answers: the path, the token, and further arguments for curl; ignores the object `meta` of a
+# feed, since its tag differs from server to server
 alike() {
     path=$1
     token=$2
@@ -102,7 +103,7 @@ if grep -q '^0\{31\}1 ' /proc/net/if_inet6 2>/dev/null; then
     same "health over IPv6" '{"status":"OK"}' "$(curl --silent --max-time 5 "http://[::1]:$edge_port/internal-backstage/health")"
 fi
 
-# ---- an upstream that lost its state: only the command of its input is left, and numbers start at 1 again
+# ---- an upstream that lost its state: it has only the command of its input again, and its numbers start at 1 again
 begin_again() {
     kill "$upstream"
     wait "$upstream" 2>/dev/null
@@ -112,7 +113,7 @@ begin_again() {
     wait_for "$upstream_port" "the upstream that began again"
 }
 
-# in the epoch of the lost state the upstream is behind the edge, so the edge keeps its own state
+# if its epoch is still that of the lost state, the upstream is behind the edge, so the edge keeps its own state
 begin_again
 for turn in 1 2 3; do
     sleep 1

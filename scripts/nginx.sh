@@ -1,7 +1,7 @@
 #!/bin/sh
-# Tests nginx in front of two edges, with deploy/nginx.conf at other ports. Over TLS a browser gets the CORS headers and its features.
-# A feed that the client already has is not sent again, since nginx sends each token to the same edge. Run after `rt ci` or `rt run`.
-# Skipped if nginx, openssl or curl is missing, or if nginx can't run here.
+# Tests nginx in front of two edges, with deploy/nginx.conf at other ports. Over TLS a browser gets the CORS headers and its features. A
+# feed that the client already has is not sent again: nginx sends all requests with one token to the same edge. Run after `rt ci` or `rt
+# run`. Skipped if nginx, openssl or curl is missing, or if nginx can't run here.
 set -u
 cd "$(dirname "$0")/.."
 
@@ -69,7 +69,7 @@ done
 same "a wrong token" '{"error":"UnknownToken"} 403' "$(through '*:dev.other' /api/frontend --write-out ' %{http_code}' --dump-header "$work/head")"
 same "the allowed origin of a refusal" '*' "$(header Access-Control-Allow-Origin)"
 
-# many concurrent connections: nginx opens a connection to an edge for each request, so no request waits for another one to end
+# several concurrent connections: nginx uses a connection of its own to an edge for each concurrent request, so none waits for another
 for number in 1 2 3 4 5 6 7 8; do
     through '*:dev.front' /api/frontend >"$work/side-$number" &
     sides="${sides-} $!"

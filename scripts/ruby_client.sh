@@ -1,7 +1,8 @@
 #!/bin/sh
-# Tests the Unleash client for Ruby, an older client without support for segments, against the upstream and against the edge. The
-# client evaluates the features of their feeds as the servers do for a browser. A feed that the client already has is not sent again.
-# The client's counts reach the upstream. Run after `rt ci` or `rt run`. Skipped if ruby, its package `unleash` or curl is missing.
+# Tests the Unleash client for Ruby, an older client without support for segments, against the upstream and against the edge. What the
+# client evaluates from a server's feed equals what that server evaluates for a browser. A feed that the client already has is not sent
+# again. The counts of the edge's client reach the upstream. Run after `rt ci` or `rt run`. Skipped if ruby, its package `unleash` or curl
+# is missing.
 set -u
 cd "$(dirname "$0")/.."
 

@@ -10,7 +10,7 @@ fail() {
     exit 1
 }
 
-# skips the whole script if a tool is missing
+# skips the whole script, with status 0, if a tool is missing
 need() {
     command -v "$1" >/dev/null 2>&1 || {
         echo "${0##*/}: skipped, since $1 is not there"
@@ -23,14 +23,14 @@ same() {
     test "$2" = "$3" || fail "$1: expected $2, got $3"
 }
 
-# where `rt ci` and `rt run` leave the program; PROGRAM names another one
+# where `rt ci` and `rt run` leave the program; the variable PROGRAM names another program to test
 program=${PROGRAM:-crates/unl_edge/out/unl_edge}
 test -x "$program" || (cd crates/unl_edge && rt run -- replay </dev/null >/dev/null 2>&1)
 test -x "$program" || fail "the program isn't built"
 
 # Starts a command in the background, for at most `lifetime` seconds (60 by default). The command reads the standard input of this
 # function, passed on as descriptor 3, since a shell gives a background command an empty standard input. Sets `last` to the process id.
-# The error stream is appended to the file `log`.
+# The error stream is appended to `$work/log`.
 start() {
     exec 3<&0
     timeout "${lifetime:-60}" "$@" <&3 3<&- 2>>"$work/log" &
@@ -48,7 +48,7 @@ ask() {
     curl --silent --max-time 5 --header "Authorization: $token" "$@" "http://127.0.0.1:$port$path"
 }
 
-# waits until the server at a port answers its health check: the port, and the server's name in error messages
+# waits at most some seconds until the server at a port answers its health check: the port, and the server's name in error messages
 wait_for() {
     tries=0
     until ask "$1" - /internal-backstage/health >"$work/health" 2>/dev/null; do

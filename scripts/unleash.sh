@@ -13,13 +13,13 @@ edge_port=${EDGE_PORT:-14063}
 client='*:development.client'
 front='*:development.front'
 
-# prints the names of the features that are on at the edge
+# prints the names of the features that are on at the edge with the variant `blue`, each followed by a space
 on() {
     ask "$edge_port" "$front" /api/frontend | grep -o '"name":"[a-z]*","variant":{"enabled":true,"feature_enabled":true,"name":"blue"' |
         sed 's/"name":"\([a-z]*\)".*/\1/' | tr '\n' ' '
 }
 
-# waits until exactly these features are on: the names, and a description for error messages
+# waits until exactly these features are on at the edge: the names, each followed by a space, and a description for error messages
 comes() {
     tries=0
     until test "$(on)" = "$1"; do

@@ -1,6 +1,6 @@
 #!/bin/sh
 # Tests what both programs write to the error stream for arguments that they refuse, by a table of expected first lines and arguments.
-# Whatever the fault, the output is `bad words` and the status is 2. Also tests `--version`, arguments from a file, and what the
+# Whatever the fault, the output is `PROGRAM: bad words` and the status is 2. Also tests `--version`, arguments from a file, and what the
 # durable upstream writes about its database file. Run after `rt ci` or `rt run`.
 set -uf
 cd "$(dirname "$0")/.."

@@ -1,7 +1,7 @@
 #!/bin/sh
-# Tests an edge with 16 workers under load. A slow or lingering connection delays no other one while a worker is free. A reset ends
-# only its own connection. 2,000 connections in sequence and 64 at once leave nothing in memory. Run after `rt ci` or `rt run`. Skipped
-# if python3 or curl is missing.
+# Tests an edge with 16 workers under load. A slow or idle connection delays no other one while a worker is free. A reset ends only its own
+# connection. After 2,000 connections in sequence and 64 at once, its memory has grown by at most 4 MiB. Run after `rt ci` or `rt run`.
+# Skipped if python3 or curl is missing.
 set -u
 cd "$(dirname "$0")/.."
 

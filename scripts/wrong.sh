@@ -4,8 +4,8 @@
 #     scripts/wrong.sh [CRATE..]
 #
 # With no argument it tries all crates, which takes an hour or more; the gate does not run it. The script copies the crates, puts the
-# edits of each where `rt must-fail` looks for them, and removes the copy at the end. One line per edit says whether it was refused.
-# The status is 0 if all were. Skipped if rt is missing.
+# edits of each crate where `rt must-fail` looks for them, and removes the copy at the end. One line per edit says whether it was
+# refused. The status is 0 if all were, and 2 if a named crate has no edits. Skipped if rt is missing.
 set -u
 cd "$(dirname "$0")/.."
 command -v rt >/dev/null 2>&1 || { echo "wrong: rt is not installed"; exit 0; }

@@ -1,7 +1,7 @@
-/* Preloaded into a program: fails the call of one number, or has it move one byte only. FAIL_MEMORY=N refuses the Nth allocation,
-   FAIL_IO=N fails the Nth read or write, SHORT_IO=N has each read or write from the Nth on move one byte, FAIL_ACCEPT=N fails the
-   Nth accept for good, FAIL_THREAD=N starts no Nth thread. COUNT_CALLS=FILE says at the end how many there were of each kind:
-   allocations, then reads and writes. */
+/* Preloaded into a program: makes single calls fail, as environment variables say. FAIL_MEMORY=N fails the Nth allocation, FAIL_IO=N
+   the Nth read or write with EIO, FAIL_ACCEPT=N the Nth accept with EBADF, after which a server accepts no more, and FAIL_THREAD=N the
+   start of the Nth thread with EAGAIN. SHORT_IO=N lets each read or write from the Nth on move at most one byte. With COUNT_CALLS=FILE,
+   the number of allocations and the number of reads and writes are written to FILE at exit. */
 #define _GNU_SOURCE
 #include <dlfcn.h>
 #include <errno.h>
@@ -47,7 +47,7 @@ __attribute__((destructor)) static void end(void) {
     }
 }
 
-/* a program with threads ends by this, which runs no destructor */
+/* a program with threads exits by _exit, which runs no destructor, so the counts are written here */
 void _exit(int status) {
     end();
     for (;;) syscall(SYS_exit_group, status);
@@ -58,7 +58,7 @@ extern void *__libc_calloc(size_t, size_t);
 extern void *__libc_realloc(void *, size_t);
 extern void *__libc_memalign(size_t, size_t);
 
-/* whether this allocation is the one to refuse */
+/* counts an allocation, and returns whether it must fail; sets errno then */
 static int refused(void) {
     return ready && ++allocations == fail_memory && (errno = ENOMEM);
 }
@@ -73,7 +73,7 @@ int posix_memalign(void **at, size_t to, size_t size) {
     return *at ? 0 : ENOMEM;
 }
 
-/* how many bytes this call may move, or none where it is to fail */
+/* counts a read or write of `size` bytes, and returns how many of them it may move; 0 if it must fail */
 static size_t moved(size_t size) {
     long number = ready ? ++moves : 0;
     if (number && number == fail_io) return 0;

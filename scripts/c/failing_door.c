@@ -1,5 +1,5 @@
-/* Preloaded into a program: while the file that FAIL_ACCEPT names exists, each accept fails for good. While the file that FAIL_WAIT names
-   exists, each wait for events but the first fails for good. */
+/* Preloaded into a program: while the file that FAIL_ACCEPT names exists, each accept fails with EBADF. While the file that FAIL_WAIT
+   names exists, each wait for events but the first one fails with EBADF. A server takes EBADF as an error that stays. */
 #define _GNU_SOURCE
 #include <dlfcn.h>
 #include <errno.h>

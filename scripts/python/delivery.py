@@ -70,7 +70,7 @@ Entry = collections.namedtuple("Entry", "number event was")
 
 
 def shown(entry, projects):
-    """The event as seen by a token for these projects, or None if the token doesn't see it."""
+    """The event as seen by a token for these projects, or None if the token doesn't see it. A feature that left them is seen as removed."""
     number, event, was = entry
     if "id" in event or event.get("project") in projects and event["kind"] == "feature":
         return number, event
@@ -93,7 +93,7 @@ def document(batch):
 
 
 class Version:
-    """The version that a server has: a state at a number, and the entries above the base."""
+    """The version that a server has: a state at a number, and its entries: all numbered events after the number `base`."""
 
     def __init__(self, epoch, number, state):
         self.epoch, self.number, self.base, self.state, self.entries = epoch, number, number, state, []
@@ -138,7 +138,7 @@ def history(epoch, commands):
 
 
 def verdict(version, held, batch):
-    """The verdict on a batch, by the table of verdicts."""
+    """The verdict on a batch, by the table of verdicts in docs/FORMATS.md."""
     if batch.state:
         if version is None:
             return "apply"
@@ -210,7 +210,8 @@ class Replica:
 
 
 def sent(versions, current, replica):
-    """A batch from the upstream, or from a server a few commands behind it, for this replica or another one. None if nothing is new."""
+    """A batch of the upstream, or of a server a few commands behind it, that is made for this replica, for a client without a state, or for
+    one at most two commands behind the server. None if nothing is new."""
     version = versions[max(0, current - draw.choice([0, 0, 0, 0, 0, 1, 5]))]
     has = replica.version.number if replica.version and replica.version.epoch == version.epoch else None
     since = draw.choices([has, None, max(0, version.number - draw.randrange(3))], [8, 2, 4])[0]
@@ -218,7 +219,7 @@ def sent(versions, current, replica):
 
 
 def delivered():
-    """The replica after all deliveries. Some batches arrive late, some twice, some not at all."""
+    """The model of the replica after all deliveries. Some batches arrive late, some twice, some not at all."""
     lines = {epoch: list(history(epoch, count)) for epoch, count in COMMANDS.items()}
     is_as = lambda epoch, number: lines[epoch][number]
     moments = list(itertools.chain.from_iterable(lines.values()))

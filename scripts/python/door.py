@@ -1,12 +1,14 @@
 """Shows that slow clients don't delay others: a well-behaved client waits at most 2 seconds, whatever else is connected.
 
-Each play is judged once: one late answer fails it. Only a machine that stalls is no fault of the server. To tell the two apart, a
-control runs beside all plays: a plain server in a process of its own, which a client polls all the time. A late answer is no fault
-only if an answer of the control was late at the same time. Then the play is repeated, and the last line says so.
+A play is one scenario of slow clients. One late answer fails it, unless the machine stalled. To tell the two apart, a control runs
+concurrently with all plays: a plain server in a process of its own, which a client polls all the time. A late answer is no fault only
+if an answer of the control was late at the same time. If that holds for all late answers of a play, the play is repeated, and the last
+line says so.
 
 Arguments: the port of an upstream and the id of the process that started it, the same for an edge behind it with 4 workers, the
 program, and, if a C compiler is there, failing_door.c as a library. Prints each fault, and in the last line the times of the slowest
-answers. The tokens are `*:dev.client` and `*:dev.front`. With the argument `control` it is the plain server, and prints its port.
+answers. The tokens are `*:dev.client` and `*:dev.front`. With the single argument `control` this script is the control's plain server,
+and prints its port.
 """
 import asyncio
 import http.client
@@ -27,11 +29,11 @@ from wire import HEALTH, answered, connect, reply_of, request, started_by, withi
 SOON = 2.0
 # how long each kind of slow client stays connected, in seconds
 EACH = 5.0
-# how long an answer is waited for at all, in seconds
+# the time after which a client stops waiting for an answer, in seconds
 GIVES_UP = 10
-# how often a play is made at most, where the machine stalls each time
+# how often a play is made at most, if the machine stalls each time
 MOST_PLAYS = 10
-# how long an answer of the control may take, in seconds: a machine that stalls for longer is of no use
+# the time limit for an answer of the control, in seconds: if the machine stalls for longer, the control fails and so does the test
 MOST_STALL = 120
 IDLE = 2_000
 SESSIONS, REQUESTS, ONE_WAY = 25, 200, 0.02
@@ -61,20 +63,20 @@ def serve_plainly():
 
 
 def asked_twice(kept, port, timeout):
-    """Sends a request on a connection that is kept, and on a new one. Returns the statuses of the replies."""
+    """Sends a health request on a kept connection, and then one on a new connection. Returns the statuses of the replies."""
     kept.sendall(HEALTH)
     return [reply_of(kept)[0], *answered(port, HEALTH, timeout=timeout)]
 
 
 class Control(threading.Thread):
-    """Polls a plain server just as the servers are polled, in a process of its own. Knows when its answers were late."""
+    """Starts a plain server in a process of its own, and polls it just as the tested servers are polled. Notes when answers were late."""
 
     def __init__(self):
         super().__init__(daemon=True)
         self.server = subprocess.Popen([sys.executable, __file__, "control"], stdout=subprocess.PIPE)
         self.port = int(self.server.stdout.readline())
         self.slowest = 0.0
-        # the times at which late answers were waited for: a begin and an end each
+        # for each poll that was late, the times at which it began and ended
         self.late = []
         self.begun = time.monotonic()
 
@@ -91,7 +93,7 @@ class Control(threading.Thread):
             time.sleep(0.05)
 
     def was_late(self, begun, ended):
-        """Whether an answer of the control was late at some time between these."""
+        """Whether an answer of the control was late at some time between these two. Waits until the polls up to `ended` are done."""
         while self.is_alive() and self.begun <= ended:
             time.sleep(0.01)
         return any(first < ended and begun < last for first, last in self.late)
@@ -101,7 +103,7 @@ control = None
 
 
 def poll(port, until, late):
-    """Sends each request twice, until a time. Notes each answer that is late or missing, with the time of its wait."""
+    """Polls the port until the time `until`. Appends each poll to `late` that is late or not answered with 200: begin, end, description."""
     kept = connect(port)
     while time.monotonic() < until:
         begun = time.monotonic()
@@ -119,7 +121,7 @@ def poll(port, until, late):
 
 
 def polled(port, links, step):
-    """Polls the port while each of the connections repeatedly takes its step. Returns the late answers, as `poll` notes them."""
+    """Polls the port while `step` is applied to each of the connections repeatedly. Returns the late answers, as `poll` notes them."""
     late = []
     until = time.monotonic() + EACH
     polling = threading.Thread(target=poll, args=(port, until, late))
@@ -139,8 +141,8 @@ def polled(port, links, step):
 
 
 def judged(name, play):
-    """Makes a play, which returns its late answers, and judges it. A play in which each late answer came while the control's was late
-    too is repeated."""
+    """Makes a play, which returns its late answers, and notes those that came while the control was in time. If there are late answers but
+    none of these, the play is repeated, up to MOST_PLAYS times in all."""
     for _ in range(MOST_PLAYS):
         late = play()
         faults = [note for begun, ended, note in late if not control.was_late(begun, ended)]
@@ -189,7 +191,7 @@ def slow_clients(port):
 
 
 def cut_at(port, at, text):
-    """Sends the requests in two pieces, far enough apart that the worker returns the connection to the door in between."""
+    """Sends three requests in two pieces, far enough apart that the worker returns the connection to the door in between."""
     try:
         found = answered(port, text[:at], text[at:], pause=0.04)
     except OSError as fault:
@@ -236,7 +238,7 @@ class Delay:
 
 
 def session(port, method, path, body, headers):
-    """Sends all requests on one kept connection, which is never reopened."""
+    """Sends REQUESTS requests on one kept connection, which is never reopened."""
     link = http.client.HTTPConnection("127.0.0.1", port, timeout=10)
     link.connect()
     link.auto_open = 0
@@ -265,7 +267,7 @@ def sessions(port, method, path, body, headers):
 
 
 def asked_once(port):
-    """Sends a request, once the server listens. Returns the answer if it is late or missing, as `poll` notes it."""
+    """Sends a health request once the server listens. Returns a list: the answer as `poll` notes it if it is late or not 200."""
     within(lambda: connect(port).close() or True)
     begun = time.monotonic()
     try:
@@ -322,7 +324,7 @@ class Trickling(threading.Thread):
 
 
 def trickled(program, port):
-    """Checks an edge behind such an upstream: it gives up after 30 seconds, sends no further request at once, and then serves."""
+    """Checks an edge with two slots behind a trickling upstream: its first exchange fails after 30 seconds, and then it serves promptly."""
     upstream = Trickling()
     upstream.start()
     words = ["edge", "--port", str(port), "--upstream", f"127.0.0.1:{upstream.port}", "--tokens", "*:dev.c"]
@@ -345,8 +347,8 @@ def stopped(port, process):
 
 
 def pipelined(port):
-    """Sends more requests at once than a session allows, while other clients do the same. Each client gets at least the
-    1,000 answers of one session."""
+    """Runs 12 clients, each of which sends 1,001 requests at once on one connection. Each client gets at least 1,000 answers, which is the
+    limit of a link."""
     def play():
         try:
             found = answered(port, HEALTH * 1_001)

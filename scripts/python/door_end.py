@@ -1,7 +1,7 @@
-"""Checks how a server ends whose door fails: it serves the connections that are there, and ends with status 7.
+"""Checks how a server ends whose door fails: it answers the requests on the connections that are there, and ends with status 7.
 
-`begin` starts the checks in threads: of an upstream and of an edge, at six ports. They need failing_door.c as a library. They note what
-is wrong in a list.
+`begin` starts the checks in threads: three of an upstream and three of an edge, at six ports. They need failing_door.c as a library, and
+append what is wrong to the list `notes`.
 """
 import os
 import signal
@@ -14,7 +14,7 @@ from wire import HEALTH, SOON, answered, connect, reply_of, rest_of, statuses, w
 
 
 def started(program, command, port, library, **calls):
-    """Starts a server in which calls fail once the files of these names exist. Returns it once it answers."""
+    """Starts a server, and returns when it answers. `calls` sets FAIL_ACCEPT or FAIL_WAIT to a path: such calls fail once it exists."""
     words = [program, command, "--port", str(port)]
     if command == "edge":
         words += ["--upstream", "127.0.0.1:1", "--upstream-tokens", "*:dev.c", "--tokens", "*:dev.c", "--workers", "2"]
@@ -28,7 +28,7 @@ def started(program, command, port, library, **calls):
 
 
 def last_answer(link):
-    """Reads the answer to a request, until the server ends the connection. Returns its status, or what went wrong."""
+    """Reads until the server closes the connection. Returns the statuses of the replies, or the error of a read."""
     try:
         found = statuses(rest_of(link))
         link.close()
@@ -38,7 +38,7 @@ def last_answer(link):
 
 
 def ends_in_time(name, notes, server, begun, least, most):
-    """Checks that a server ends with status 7, this many seconds after it began to."""
+    """Checks that a server ends with status 7, from `least` to `most` seconds after the time `begun`."""
     try:
         status = server.wait(timeout=SOON + most)
     except subprocess.TimeoutExpired:
@@ -50,8 +50,8 @@ def ends_in_time(name, notes, server, begun, least, most):
 
 
 def accepting_fails(notes, program, command, port, library, is_silent):
-    """Checks a server that can accept no more: it serves the connections that are there, closes each behind its answer, and ends
-    once none is left, or after 30 seconds where some are silent."""
+    """Checks a server whose accepts fail: it serves the connections that are there, closes each after its answer, and ends once none is
+    left. Connections that stay silent (`is_silent`) are closed after 30 seconds."""
     name = f"{command} that can't accept"
     with tempfile.TemporaryDirectory() as folder:
         path = os.path.join(folder, "fails")
@@ -63,7 +63,7 @@ def accepting_fails(notes, program, command, port, library, is_silent):
         links[1].sendall(HEALTH[:9])
         silent = [connect(port) for _ in range(3 if is_silent else 0)]
         answered(port, HEALTH)
-        # A link waits a moment for a further request, and is closed behind its answer if accepting fails meanwhile.
+        # For a moment after its answer a link waits for a further request. If accepting failed meanwhile, the link would be closed.
         time.sleep(0.5)
         open(path, "w").close()
         begun = time.monotonic()
@@ -79,7 +79,7 @@ def accepting_fails(notes, program, command, port, library, is_silent):
 
 
 def waiting_fails(notes, program, command, port, library):
-    """Checks a server that can wait no more: it serves the requests that came, and ends at once."""
+    """Checks a server whose waits for events fail: it answers the requests that have arrived, closes all connections, and ends."""
     name = f"{command} that can't wait"
     with tempfile.TemporaryDirectory() as folder:
         path = os.path.join(folder, "fails")
@@ -91,7 +91,7 @@ def waiting_fails(notes, program, command, port, library):
         silent_one = connect(port)
         answered(port, HEALTH)
         time.sleep(0.5)
-        # All requests come in one wait, the last that succeeds.
+        # The server is stopped so that one wait, the last that succeeds, reports all requests.
         os.kill(server.pid, signal.SIGSTOP)
         for link in links:
             link.sendall(HEALTH)

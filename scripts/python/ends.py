@@ -146,9 +146,9 @@ def play_inputs():
 
 # ---- segments that are inlined for an older client
 
-# for each of two strategies, the number of its own constraints and the ids of its segments; the number of constraints of the segment
-# 7; and whether each strategy has at most 100 constraints after inlining. An id counts each time that it is named, and an unknown
-# segment counts as one constraint
+# Rows: for each of two strategies, the number of its own constraints and the ids of its segments; then the number of constraints of the
+# segment 7, the only one there is; then whether each strategy has at most 100 constraints after inlining. A segment counts each time that
+# its id is named, and an id without a segment counts as one constraint.
 WRITTEN_OUT = [
     ((59, [7]), (0, []), 41, True),
     ((60, [7]), (0, []), 41, False),
@@ -399,7 +399,7 @@ OF_SDK = (b"User-Agent: shop\r\nUNLEASH-APPNAME: shop\r\nUNLEASH-INSTANCEID: i-1
 
 
 def play_polls():
-    """Sends polls of an unchanged state, split into pieces."""
+    """Checks that polls of an unchanged state are answered with 304, also if their bytes arrive in pieces."""
     with Upstream(UPSTREAM_PORT, replies_by_path([hydration(5, ON)], [CLIENT_BOOK])):
         run = Run(of_edge("--connections", "1", tokens="*:dev.c"), whole(b""))
         with within(lambda: connect(PORT), run.lives) as link:
@@ -416,7 +416,8 @@ def play_polls():
 
 
 def play_waiting():
-    """Checks connections of an edge whose upstream is unreachable: two that wait for each other, and more than there are workers."""
+    """Checks connections of an edge whose upstream is unreachable: one that is served while another one is in the middle of a request, and
+    100 connections, up to 16 at once, with 4 workers."""
     run = Run(of_edge("--connections", "2", "--workers", "2"), whole(b""))
     with within(lambda: connect(PORT), run.lives) as first:
         first.sendall(HEALTH[:20])

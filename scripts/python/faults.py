@@ -2,8 +2,8 @@
 
 SHIM is scripts/c/failing_calls.c, built as a library for LD_PRELOAD. Each allocation, read and write fails once: in a replay, in a
 check, on one connection of an upstream with two requests, and in one turn of an edge before one connection. The second accept of an
-upstream and of an edge fails once, and so does the start of each thread of an edge. Prints how many failures it tried and their
-outcomes. Exits with status 1 if an outcome is not one of the stated ones.
+upstream and of an edge fails once, and so does the start of each of the first three threads of an edge. Prints how many failures it tried
+and their outcomes. Exits with status 1 if an outcome is not one of those that docs/FORMATS.md states.
 """
 import collections
 import concurrent.futures
@@ -18,7 +18,7 @@ import time
 
 PROGRAM, SHIM, UPSTREAM_PORT, EDGE_PORT = sys.argv[1], sys.argv[2], int(sys.argv[3]), int(sys.argv[4])
 DONE, READ_FAULT, WRITE_FAULT, OUT_OF_MEMORY, DOOR_FAULT = 0, 4, 5, 6, 7
-# the number of concurrent runs of an edge: each run waits for a turn of one second
+# the number of concurrent runs of an edge; they are concurrent since each takes a second or more, the interval between two turns
 AT_ONCE = 8
 INTERNAL = b'HTTP/1.1 500 Internal Server Error\r\nContent-Length: 0\r\nConnection: close\r\n\r\n'
 failures = []
@@ -74,7 +74,8 @@ TOGGLES = b'GET /api/frontend HTTP/1.1\r\nHost: x\r\nAuthorization: *:dev.front\
 
 
 def exchanged(process, port):
-    """A server's answers to two requests on one connection, or None if the server ends before it accepts one."""
+    """A server's answers to two requests on one connection. None if the server ends, or refuses to connect for some seconds. Empty if the
+    connection fails."""
     for _ in range(2000):
         if process.poll() is not None:
             return None
@@ -93,8 +94,8 @@ def exchanged(process, port):
 
 
 def served(words, ports, path='/dev/null'):
-    """A function that runs a server for one connection at one of these ports. It returns what the connection received, the server's
-    output and its status."""
+    """A function that runs a server for one connection at one of these ports. It returns what was received on each connection that was
+    tried (at most five), the server's output and its status."""
     free = queue.Queue()
     for port in ports:
         free.put(port)
@@ -127,8 +128,8 @@ REFUSALS = (b'{"error":"UnknownToken"}', b'{"error":"NotReady"}')
 
 def is_answer(kind, answer, whole):
     """Whether a connection may receive this answer. If an allocation fails: complete answers, perhaps followed by the text of the
-    internal error. If a read or write fails: a prefix of the normal answers. Or, if an edge's request to its upstream failed, a second
-    answer that says so."""
+    internal error. If a read or write fails: a prefix of the normal answers; or, if an edge's request to its upstream failed, the first
+    answer and then a refusal (UnknownToken or NotReady)."""
     if kind == 'FAIL_IO':
         unasked = answer.startswith(HEALTHY) and answer.endswith(REFUSALS)
         return whole.startswith(answer) or unasked
@@ -166,8 +167,8 @@ def tried(name, expected, given):
 
 
 def cut_or(whole):
-    """The allowed outcomes of a server whose next accept fails for good: the connection before it receives its answers, or nothing if it
-    was not served yet."""
+    """The allowed outcomes of a server whose second accept fails: the first connection receives its normal answers, or nothing if it was
+    not served yet."""
     return [(answer, b'', DOOR_FAULT) for answer in (whole, b'')]
 
 

@@ -1,7 +1,7 @@
 """Sends hostile bytes over sockets. Each input gets the status that docs/FORMATS.md states, and the server serves the next connection.
 
 Arguments: the port of an upstream and the id of the process that started it, and the same for an edge. Prints each unexpected answer,
-and a line if a server's memory grew. The tokens are `*:dev.client` and `*:dev.front`, the secret is `s`.
+and a line if a server's memory grew by more than SLACK. The tokens are `*:dev.client` and `*:dev.front`, the secret is `s`.
 """
 import sys
 
@@ -12,7 +12,7 @@ LONG = b"1" * 1_000
 ROUNDS = 5
 # the memory that an allocator may retain between rounds, in KiB
 SLACK = 4_096
-# the limit for an answer after a connection that the server drops after 30 seconds, in seconds
+# how long to wait for the end of a connection that the server drops after 30 seconds, in seconds
 LATER = 50
 
 CLIENT, FRONT, SECRET = b"*:dev.client", b"*:dev.front", b"s"

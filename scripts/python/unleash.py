@@ -1,8 +1,8 @@
 """A server that imitates Unleash: unleash.py PORT
 
 It knows one client token and one frontend token. It answers token validation, the whole feed and the delta feed with the keys and
-headers that Unleash's own server writes, as far as Unleash's documentation shows them. It accepts metrics. A POST to /next makes the
-next state. It is not Unleash: it only tests how an edge handles that format.
+headers that Unleash's own server writes, as far as Unleash's documentation shows them. It accepts bulk metrics, and GET /reports returns
+how many of their entries it got. A POST to /next makes the next state. It is not Unleash: it only tests how an edge handles that format.
 """
 import json
 import sys

@@ -1,5 +1,5 @@
-"""Tests an edge with many workers under load, over sockets. A slow, lingering or reset connection delays no other one, and connections
-leave nothing in memory.
+"""Tests an edge with many workers under load, over sockets. A slow, idle or reset connection delays no other one, and connections that
+ended leave at most SLACK in memory.
 
 Arguments: the port of the edge, the id of the process that started it, and the number of its workers. Prints each fault.
 """
@@ -42,7 +42,7 @@ def drip(link, ended):
 
 
 def beside_slow_links(port, workers):
-    """Occupies all workers but one with connections that are slow, silent, or idle after a request. Others are served in time."""
+    """Opens one fewer connection than there are workers, each of them slow, silent, or idle after a request. Others are served in time."""
     links = [connect(port) for _ in range(workers - 1)]
     ended = threading.Event()
     slow = threading.Thread(target=drip, args=(links[0], ended))
@@ -64,7 +64,7 @@ def one_after_the_other(port, count):
 
 
 def at_once(port):
-    """Sends requests on as many connections at once as the edge lets wait."""
+    """Sends a request on each of AT_ONCE connections at once, as many as may wait for a worker. All are answered."""
     given = [None] * AT_ONCE
 
     def ask(place):
