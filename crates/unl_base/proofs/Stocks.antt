@@ -44,7 +44,7 @@ pub next_new : (links : List (Option MemoryLinkState)) (given back : ℕ) (defau
 next_new links given back default more stocked =
     All-head IsNewLink (slice_index_or links given default) (drop (given + 1) links) (subst (All IsNewLink) (drop_more links given default more) stocked.new)
 
--- The next link to come gives the first of the texts to come.
+-- The next link to come gives the first of the texts to come, has sent nothing and has a fault count of 0.
 pub next_is : (links : List (Option MemoryLinkState)) (given back : ℕ) (default : Option MemoryLinkState) → given < length links → IsStocked links given back
     → IfSome (slice_index_or links given default) (λ wire. IsNextLink (map to_come (drop given links)) wire)
 next_is links given back default more stocked =

@@ -41,7 +41,7 @@ ListenedAt port before door = door.ports ≡ before.ports ++ port ∷ []
 abbrev pub ListenedOnlyAt : ℕ → DoorState → DoorState → Type 0
 ListenedOnlyAt port before door = (door.ports ≡ before.ports) ⊎ ListenedAt port before door
 
--- The door is closed: it has no more links to hand out.
+-- The door is closed: as far as its links are observable, it has no more of them to hand out.
 pub record IsClosed (door : DoorState) : Type 0 where
   pub closed : door.closed ≡ true
   pub none_left : IfSome door.links (λ links. links ≡ [])
@@ -55,7 +55,7 @@ pub record IsClosedAt (port : ℕ) (before door : DoorState) : Type 0 where
 abbrev pub ServedOnlyAt : ℕ → ℕ → DoorState → DoorState → Type 0
 ServedOnlyAt port served before door = ((served ≡ 0) × (door.ports ≡ before.ports)) ⊎ ListenedAt port before door
 
--- The door is open: it has another link to hand out.
+-- The door is open: as far as its links are observable, it has another one to hand out.
 pub record IsOpenDoor (door : DoorState) : Type 0 where
   pub not_closed : door.closed ≡ false
   pub some_left : IfSome door.links (λ links. ¬ (links ≡ []))

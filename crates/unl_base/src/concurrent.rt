@@ -9,13 +9,14 @@ use std::sync::Wait;
 use std::thread;
 use std::thread::{Promise, PromisedHandle, Scope, Threads};
 
-/// Runs each job on its own thread and `here` on this one. Returns `here`, and the jobs in their order, once all have
-/// worked.
+/// Runs each of `jobs` on its own thread and the job `here` on the caller's thread. Once all have finished, returns
+/// `here`, and the jobs in their order.
 ///
 /// # Errors
 ///
-/// `NotStarted`: a thread can't be started. `Memory`: out of memory for the list of jobs or of handles. Either way
-/// `here` is cancelled, the jobs that were already started run to their end, and all jobs are dropped.
+/// `NotStarted`: a thread can't be started. `Memory`: out of memory for the list of jobs or of thread handles. Either
+/// way `here` is cancelled and returned, the jobs that were already started run to their end, and all of `jobs` are
+/// dropped.
 pub fn run_concurrently<R: Threads + Wait, J: Job + Send + Drop, M: Job>(
     rt: &R,
     jobs: Vec<J>,
@@ -31,8 +32,8 @@ pub fn run_concurrently<R: Threads + Wait, J: Job + Send + Drop, M: Job>(
     (here, done)
 }
 
-/// Work for `run_around`. The contract of a scope says nothing about a `&mut` that its closure captures, so the closure
-/// captures a value of a type parameter instead.
+/// Work that `run_around` either runs or cancels on the caller's thread. The contract of `thread::scope` says nothing
+/// about a `&mut` that its closure captures, so the closure captures a value of a type parameter instead.
 trait ScopedWork {
     type Done;
 
@@ -91,7 +92,7 @@ impl<J: Job> Promise<J> for Worked<J> {
 /// A job running on its thread.
 type Running<J> = PromisedHandle<J, Worked<J>>;
 
-/// Runs each job on its own thread and `errand` on this one. On an error `errand` is cancelled, as in
+/// Runs each job on its own thread and `errand` on the caller's. On an error `errand` is cancelled, as in
 /// [`run_concurrently`].
 fn run_around<R: Threads + Wait, J: Job + Send + Drop, E: ScopedWork + Drop>(
     rt: &R,
@@ -134,8 +135,8 @@ fn run_around<R: Threads + Wait, J: Job + Send + Drop, E: ScopedWork + Drop>(
 ///
 /// # Errors
 ///
-/// Why the call stopped before all jobs were started and listed, and the handles in the list. If the list can't grow,
-/// the handle of the last job started is dropped; the scope waits for that job.
+/// The fault that stopped the call, and the handles of the jobs started so far. If the list of handles can't grow, it
+/// lacks the handle of the last job started; the scope waits for that job.
 fn start_all<'s, X, J: Job + Send + Drop + 's>(
     scope: &Scope<'s, X>,
     jobs: Vec<J>,

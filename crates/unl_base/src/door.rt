@@ -1,4 +1,5 @@
-//! A door, which accepts links and takes them back.
+//! A door, which accepts connections at a port. It hands out each as a link (a byte stream in both directions), and
+//! takes the link back at the end.
 ghost use Rattle.std.specs.Prelude.{◌≡◌, ◌<◌, ◌≤◌, ℕ, is_ok, IfOk, IfSome, OnErr, OnOk};
 ghost use Rattle.unl_base.specs.Doors.{Accepts, DoorState, IsFresh, IsListening, listening_at, taking_back};
 ghost use Rattle.unl_base.specs.Faults.{HasCause};
@@ -16,7 +17,7 @@ pub trait Door {
     /// bytes it had sent and its fault count.
     ghost state: { Self → DoorState };
 
-    /// This door's fault count.
+    /// This door's fault count. It rises with each failed call, until it has saturated at 2^64 - 1.
     ghost faults: { Self → ℕ };
 
     /// Starts listening at `port`.
@@ -44,7 +45,8 @@ pub trait Door {
         ensures cause { HasCause (faults self.old) (faults self.new) result }
         ensures still { OnOk result (faults self.new ≡ faults self.old) };
 
-    /// Takes back a link that `accept` returned. The fault count of the door is unchanged.
+    /// Takes back a link that `accept` returned. Fewer links must have been taken back than handed out. The fault count
+    /// of the door is unchanged.
     fn give_back(&mut self, link: Self::L)
         requires { (state self.old).back < (state self.old).given }
         ensures returns { state self.new ≡ taking_back (Self.L.Sink.sent link) (Self.L.Source.faults link) (state self.old) }

@@ -46,7 +46,7 @@ impl Stock {
         }
     }
 
-    /// Hands out the next link; `None` if there are none left.
+    /// Hands out the next link. Returns `None` if none is left.
     fn take(&mut self) -> Option<MemoryLink>
         ensures ends { IsNone result ↔ (self.old.links ≡ []) }
         ensures comes { IfSome result (λ link. IsNextLink self.old.links link) }

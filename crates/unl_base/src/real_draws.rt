@@ -1,4 +1,4 @@
-//! Draws whose moments come from a clock and whose words come from a random number generator.
+//! Draws whose times come from a clock and whose words come from a random number generator.
 ghost use Rattle.rand_core.specs.Stream.{next_u64};
 ghost use Rattle.std.specs.Prelude.{◌≡◌, ◌≤◌, None};
 ghost use Rattle.unl_base.specs.Draws.{IsInLimit};
@@ -12,8 +12,9 @@ use std::time::{Clock, SystemTime};
 /// The latest moment that a draw reports, in milliseconds since 1970.
 const LAST_MOMENT: u64 = 100_000_000_000_000;
 
-/// Draws with the time of a clock and the words of a small generator, which isn't cryptographically secure. If the
-/// clock fails, a draw repeats the last moment that was read, or has 0 if none was.
+/// A supply of draws. Each has the time of a clock, capped at 100,000,000,000,000 milliseconds since 1970, and a word
+/// of a small generator, which isn't cryptographically secure. If the clock fails, a draw repeats the last time that
+/// was read, or has the time 0 if none was read.
 #[derive(Drop)]
 pub struct RealDraws<C: Clock + Copy + Drop> {
     clock: C,
@@ -22,7 +23,8 @@ pub struct RealDraws<C: Clock + Copy + Drop> {
 }
 
 impl<C: Clock + Copy + Drop> RealDraws<C> {
-    /// Draws with the time of `clock`. The generator is seeded with the clock's current time, or 0 if the clock fails.
+    /// A supply of draws with the time of `clock`. The generator is seeded with the clock's current time in
+    /// milliseconds since 1970, or with 0 if the clock fails.
     pub fn new(clock: C) -> Self {
         let mut draws = RealDraws {
             clock,
@@ -70,7 +72,8 @@ impl<C: Clock + Copy + Drop> Draws for RealDraws<C> {
         }
     }
 
-    /// The result uses the same clock, and a generator that is seeded with the next two words of this one's generator.
+    /// The result uses the same clock, and a generator that is seeded with the next two words of this supply's
+    /// generator.
     fn split(&mut self) -> Self {
         let state = self.words.next_u64();
         let stream = self.words.next_u64();

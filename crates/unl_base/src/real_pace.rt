@@ -6,8 +6,8 @@ use crate::pace::Pace;
 use std::thread;
 use std::time::{Clock, Duration};
 
-/// A pace by a clock. With an interval, its turns never end, and it sleeps for the interval before each turn. Without
-/// an interval, it has no turns.
+/// A pace timed by a clock. With an interval, its turns never end, and it sleeps for the interval before each turn.
+/// Without an interval, it has no turns.
 #[derive(Drop)]
 pub struct RealPace<C: Clock + Drop> {
     clock: C,

@@ -1,7 +1,7 @@
-//! Why jobs did not run.
+//! Why a spawner (which runs jobs) failed.
 use thiserror::Error;
 
-/// Why a spawner did not run its jobs.
+/// Why a spawner did not run all of its jobs.
 #[derive(Clone, Copy, Debug, PartialEq, Eq, Error)]
 pub enum SpawnFault {
     /// A job couldn't be started. The spawner counted the fault.

@@ -40,7 +40,7 @@ pub trait Spawner {
     /// The runtime that starts its threads.
     type Rt: Threads + Wait;
 
-    /// The number of failures to start a job.
+    /// The number of failures to start a job, saturating at 2^64 - 1.
     ghost faults: { Self → ℕ };
 
     /// Returns where this spawner runs jobs.
