@@ -1,4 +1,5 @@
--- Each step of the writer or of a reader keeps the invariant `IsKept`.
+-- Each step of the writer or of a reader keeps the invariant `IsKept`: the published value is the opening value after the list of installs,
+-- the value before each install allows it, and what the writer and the readers know agrees with the opening value and the list.
 use Rattle.std.proofs.Common.{◌≡◌, ℕ, zero, suc, ◌+◌, ◌≤◌, ◌≢◌, List, [], ◌∷◌, ◌++◌, length, fold, set, Option, Some, None, IfSome, refl, sym, ap, ◌∙◌, subst, ⊎_elim, le_refl, le_trans, add-zero, zero-le, append_assoc, append-nil, length-append, arith}
 use Rattle.std.proofs.lemmas.List.Sums.{fold-append}
 use mathlib.Core.Option.{some, some-injective, some-ne-none}

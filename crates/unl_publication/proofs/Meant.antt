@@ -1,4 +1,4 @@
--- How a look changes the values that a reader knows.
+-- How a look, which is one read of the published value, changes the values that a reader knows.
 use Rattle.std.proofs.Common.{◌≡◌, ℕ, zero, suc, ◌<◌, ◌≤◌, leb, List, [], ◌∷◌, length, take, fold, Bool, true, false, Option, Some, None, refl, sym, ap, ◌∙◌, subst, arith, take_all, is_some, inl, inr}
 use Rattle.std.specs.Option.{option_map}
 use Rattle.std.proofs.lemmas.List.{take-append-le}
@@ -71,7 +71,7 @@ module _ {S I : Type 0} (installed : S → I → S) where
     keeps = keeps past v w ahead t;
   }
 
-  -- The value that a look shows is known.
+  -- The value after all known installs is known, if the opening value is.
   pub value_at-here : (w : Knowledge S I) (opening : S) → length w.before ≤ length w.installs → w.opening ≡ Some opening → value_at installed w (front_seen w) ≡ Some (fold installed opening w.installs)
   value_at-here w opening short is =
       let n : ℕ = length w.installs in
@@ -92,7 +92,7 @@ module _ {S I : Type 0} (installed : S → I → S) where
   pub stayed : (past : Option (Knowledge S I)) (v now : Knowledge S I) → now ≡ v → StaysOrTakes installed past v past now
   stayed past v now is = inl (refl, is)
 
-  -- A look that saw fewer installs than `least` loses no knowledge.
+  -- A reader that looked once, saw fewer installs than `least`, and ended the look loses no knowledge.
   pub refuses : (least : ℕ) (past late : Option (Knowledge S I)) (v w now : Knowledge S I) → IsAhead past v → Takes installed past v w → length w.installs < least → late ≡ None → now ≡ w
       → Follows installed (known past v) (known late now) × LooksBelow least (known past v) (known late now)
   refuses least past late v w now ahead t few none is =

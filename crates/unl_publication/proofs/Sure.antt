@@ -1,4 +1,5 @@
--- The invariants of the writer and the readers. Ghost fields state them wrapped in `∥ ∥₁`; these lemmas unwrap them.
+-- The invariants of the writer and the readers: ghost (specification-only) fields state them as `∥ P ∥₁`, which says only that a proof of
+-- `P` exists. These lemmas show that `P` then holds, and that the steps of the writer and the readers keep the invariants.
 use Rattle.std.proofs.Common.{◌≡◌, ℕ, suc, ◌+◌, ◌<◌, ◌≤◌, zero-le, List, [], ◌∷◌, length, fold, Some, true, false, is_err, is_some, Result, Ok, Err, MatchResult, IfSome, sym, refl, ap, ◌∙◌, subst, add-zero, length-append, arith}
 use mathlib.Core.Logic.{∥∥₁_elim, ∥∥₁_map, ∥∥₁_map₂}
 use base.Stored.{Coded, Coded-set}
@@ -35,22 +36,22 @@ module _ {S I : Type 0} where
   pub IsLooking-from : (v : Knowledge S I) → ∥ IsLooking v ∥₁ → IsLooking v
   IsLooking-from v h = record { fronts = AreFronts-from v (∥∥₁_map h (λ x. x.fronts)); before = ∥∥₁_elim h le_prop (λ x. x.before) }
 
-  -- The fronts of all looks are at most the length of the list that the reader continues from.
+  -- The fronts of the looks never fall, and are at most the length of the list that the reader continues from.
   pub IsBetweenLooks-rises : (past : Option (Knowledge S I)) (now : Knowledge S I) → IsBetweenLooks past now → Rise 0 (known past now).fronts (length now.installs)
   IsBetweenLooks-rises past now h = Rise-higher 0 (known past now).fronts (length (known past now).installs) (length now.installs) h.fronts (known_ahead past now h.ahead)
 
-  -- The invariant holds of a reader that now continues from a learned list.
+  -- The invariant holds for a reader that now continues from a learned list.
   pub IsBetweenLooks-learned : (past : Option (Knowledge S I)) (now learned kept : Knowledge S I) → IsBetweenLooks past now → kept ≡ known past now → length now.installs < length learned.installs → IsBetweenLooks (Some kept) learned
   IsBetweenLooks-learned past now learned kept h is more = record {
     fronts = subst AreFronts (sym is) h.fronts;
     ahead = omega (arith, known_ahead past now h.ahead, more, ap (λ (k : Knowledge S I). length k.installs) is);
   }
 
-  -- The invariant holds of a reader that ended a look and continues from its own list.
+  -- The invariant holds for a reader that ended a look and continues from its own list.
   pub IsBetweenLooks-alone : (now : Knowledge S I) → IsLooking now → IsBetweenLooks None now
   IsBetweenLooks-alone now h = record { fronts = h.fronts; ahead = h.before }
 
-  -- The invariant holds of a reader that knows an opening value and a list, and hasn't looked.
+  -- The invariant holds for a reader that knows an opening value and a list, and hasn't looked.
   pub IsBetweenLooks-fresh : (now : Knowledge S I) → now.fronts ≡ [] → now.before ≡ [] → IsBetweenLooks None now
   IsBetweenLooks-fresh now none nothing = record {
     fronts = subst (λ (ns : List ℕ). Rise 0 ns (length now.installs)) (sym none) zero-le;
@@ -65,7 +66,7 @@ module _ {S I : Type 0} where
     before_fits (Some past) now h = omega (arith, h, length-first_of (value_at installed past) (suc (length past.installs)))
     before_fits None now h = h
 
-    -- A look appends one front.
+    -- The invariant holds for a reader that has begun a look.
     pub IsLooking-taken : (past : Option (Knowledge S I)) (v w : Knowledge S I) → Takes installed past v w → IsBetweenLooks past v → IsLooking w
     IsLooking-taken past v w t h = let up : length v.installs ≤ length w.installs = StartsWith-length w.installs v.installs t.seen in record {
       fronts = subst AreFronts (sym t.same) (Rise-push 0 (known past v).fronts (length v.installs) (length w.installs) (IsBetweenLooks-rises past v h) up);
@@ -78,7 +79,7 @@ module _ {S I : Type 0} where
       front_is = ∥∥₁_elim h (Coded-set coded_ℕ _ _) (λ x. x.front_is);
     }
 
-    -- The value shown by a look.
+    -- A look shows the value after the installs that the reader then knows.
     pub Shows-entered : {allows : S → I → Type 0} (before : List (Option S)) (fronts : List ℕ) (value : S) (v w : Knowledge S I) → Enters installed front_of allows before fronts value v w → Shows installed front_of value w
     Shows-entered before fronts value v w e = record { value_is = λ o is. e.value_is o (sym (ap (λ (k : Knowledge S I). k.opening) e.same) ∙ is); front_is = e.front_is }
 
@@ -86,7 +87,7 @@ module _ {S I : Type 0} where
     counted counts s [] = sym (add-zero (front_of s))
     counted counts s (what ∷ given) = omega (arith, counted counts (installed s what) given, counts s what)
 
-    -- The value shown after a publication.
+    -- After a publication, the writer shows the value after the longer list.
     pub Shows-published : ((s : S) (what : I) → front_of (installed s what) ≡ front_of s + 1) → (value next : S) (given : List I) (v : Knowledge S I)
         → Shows installed front_of value v → next ≡ fold installed value given → Shows installed front_of next (with_installs given v)
     Shows-published counts value next given v h is = record {
@@ -97,7 +98,7 @@ module _ {S I : Type 0} where
 -- ---- installs that the values before them allow
 
 module _ {S I : Type 0} (installed : S → I → S) (allows : S → I → Type 0) where
-  -- The installs are allowed for equal knowledge.
+  -- If the known installs are allowed, so are those of equal knowledge.
   pub KnowsAllowed-same : (v w : Knowledge S I) → w ≡ v → ∥ KnowsAllowed installed allows v ∥₁ → ∥ KnowsAllowed installed allows w ∥₁
   KnowsAllowed-same v w same h = subst (λ (k : Knowledge S I). ∥ KnowsAllowed installed allows k ∥₁) (sym same) h
 
@@ -111,7 +112,8 @@ module _ {S I : Type 0} (installed : S → I → S) (allows : S → I → Type 0
       KnowsAllowed-same (knows_opening table value) w
       (opens ∙ (λ i. record { table = Some table; opening = Some value; installs = (none i).installs; before = (none i).before; fronts = (none i).fronts })) ∣ tt ∣₁
 
-  -- `AreBothAllowed` for a reader that did not continue from a learned list.
+  -- `AreBothAllowed` (the installs that a reader saw and those that it continues from are allowed) for a reader that did not continue from
+  -- a learned list.
   pub AreBothAllowed-alone : (late : Option (Knowledge S I)) (now : Knowledge S I) → late ≡ None → ∥ KnowsAllowed installed allows now ∥₁ → ∥ AreBothAllowed installed allows late now ∥₁
   AreBothAllowed-alone late now none h = subst (λ (o : Option (Knowledge S I)). ∥ AreBothAllowed installed allows o now ∥₁) (sym none)
       (∥∥₁_map h (λ (x : KnowsAllowed installed allows now). both x))

@@ -18,7 +18,7 @@ module _ {T I P S : Type 0} {c : counted.Ghosts T I S} {a : absorb.Ghosts T I S}
   abbrev pub written : Writer T I P S c a → Knowledge S I
   written writer = view writer.sides.desk.place
 
-  -- A publication of the writer failed after its install was appended to the log of `left_right`, so every later one fails.
+  -- Whether a publication of the writer failed after its install was appended to the log of `left_right`: then every later one fails.
   abbrev pub is_closed : Writer T I P S c a → Bool
   is_closed writer = writer.refused
 
@@ -38,7 +38,7 @@ module _ {T I P S : Type 0} {c : counted.Ghosts T I S} {a : absorb.Ghosts T I S}
   abbrev pub learned_front : Reader T I P S c a → ℕ
   learned_front reader = reader.least
 
-  -- A reader that knows exactly `knowledge`, and has learned nothing else.
+  -- A reader that knows exactly `knowledge`, and has learned no report.
   pub record IsFresh (knowledge : Knowledge S I) (reader : Reader T I P S c a) : Type 0 where
     pub knows : next reader ≡ knowledge
     pub alone : past reader ≡ None
@@ -65,6 +65,6 @@ module _ {W T I P S : Type 0} {c : counted.Ghosts T I S} {a : absorb.Ghosts T I 
   abbrev pub published : Publisher W T I P S c a → Knowledge S I
   published publisher = unwrap_or (option_map written publisher.writer) knows_nothing
 
-  -- As `is_closed`, for a publisher.
+  -- Whether the writer of a publisher is closed, as `is_closed` says.
   abbrev pub stays_closed : Publisher W T I P S c a → Bool
   stays_closed publisher = unwrap_or (option_map is_closed publisher.writer) true

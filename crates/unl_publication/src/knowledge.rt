@@ -1,11 +1,12 @@
-//! The ghost record of what the writer and each reader know about the published value.
+//! The ghost (specification-only) record of what the writer and each reader know about the published value.
 use std::collections::LinkedList;
 
 /// What a writer or a reader knows of the published value. Each change of that value is one install. A reader sees the
 /// list of installs when it looks, and can also learn a longer list from a report of the writer and continue from it.
 /// This type exists only in contracts: no value of it is created.
 pub struct Knowledge<S, I> {
-    /// The name of the writer's `atomic_table`, if known. It identifies the publication.
+    /// The name, if known, of the writer's `atomic_table`, the table of what the writer and each reader know. The name
+    /// identifies the publication.
     pub table: Option<u64>,
     /// The value that was published first, if known.
     pub opening: Option<S>,

@@ -3,16 +3,16 @@
 //! (`left_right`).
 #![tactic(auto)]
 
-mod beginning;
 mod knowledge;
+mod new_readers;
 mod publisher;
 mod reader;
 mod rule;
 mod value;
 mod writer;
 
-pub use beginning::{begin, new_reader};
 pub use knowledge::Knowledge;
+pub use new_readers::new_reader;
 pub use publisher::Publisher;
 pub use reader::{Guard, Reader};
 pub use rule::{Ruled, Rules};

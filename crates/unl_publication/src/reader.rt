@@ -1,4 +1,5 @@
-//! Readers of the published value.
+//! Readers of the published value. Each change of the value is one install. The library `left_right` keeps two copies
+//! of the value, so that a reader never waits.
 ghost use Rattle.std.specs.Prelude.{max, ◌≡◌, ◌≤◌, ◌<◌, true, IfOk, IfErr, IfSome, MatchResult, Some, None, is_some, option_map, fold};
 ghost use Rattle.std.specs.Prelude.{length};
 ghost use Rattle.left_right.specs.Sides.{view};

@@ -1,5 +1,5 @@
 //! The invariant that each access to the published value keeps, and what each access makes known to the writer or the
-//! reader.
+//! reader. Each change of the value is one install.
 use crate::knowledge::Knowledge;
 use crate::value::Counted;
 use atomic_table::{Join, Split};
@@ -63,7 +63,8 @@ impl<I> Given<I> for Brand {
     ghost given = { [] };
 }
 
-/// The name of a new writer's `atomic_table`. It exists only in contracts, so a call passes it as a type parameter.
+/// The name of a new writer's `atomic_table`, the table of what the writer and each reader know. The name exists only
+/// in contracts, so a call passes it as a type parameter.
 pub trait AtTable {
     ghost use Rattle.std.specs.Prelude.{ℕ};
 
@@ -104,8 +105,8 @@ pub trait Past<S> {
     ghost use Rattle.std.specs.Prelude.{List, ℕ};
     ghost use Rattle.std.specs.declared.option.Option.{Option};
 
-    /// The values after 0, 1, 2, .. installs that the reader knew before it continued from a list of installs that the
-    /// writer shared with it. Empty if it never did.
+    /// The values after 0, 1, 2, .. installs, as the reader knew them before it continued from a learned list (one that
+    /// the writer shared with it). Empty if it never did.
     ghost before: { List (Option S) };
 
     /// The number of installs at each earlier look.

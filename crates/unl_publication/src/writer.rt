@@ -1,4 +1,5 @@
-//! The writer of the published value, and what it reports for a reader to learn.
+//! The writer of the published value, and what it reports for a reader to learn. Each change of the value is one
+//! install. The library `left_right` keeps two copies of the value: the writer changes one while readers see the other.
 ghost use Rattle.std.specs.Prelude.{◌≡◌, ◌^◌, ◌<◌, false, [], ◌∷◌, ℕ, length, drop, fold};
 ghost use Rattle.std.specs.Prelude.{IfOk, IfSome, IsErr, MatchResult, OnOk};
 ghost use Rattle.std.specs.Prelude.{true, Some, is_some};

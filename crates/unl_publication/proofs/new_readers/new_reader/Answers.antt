@@ -2,7 +2,7 @@ use Rattle.std.proofs.Common.{ap, ◌∙◌, refl, sym, length}
 use Rattle.left_right.specs.Sides.{view}
 use Rattle.unl_publication.specs.declared.knowledge.Knowledge.{Knowledge}
 use Rattle.unl_publication.proofs.Sure.{AreBothAllowed-alone, IsBetweenLooks-fresh, KnowsAllowed-shared, Shows-from}
-use Rattle.unl_publication.proofs.beginning.new_reader.Goals as goal
+use Rattle.unl_publication.proofs.new_readers.new_reader.Goals as goal
 
 pub invariant_of-result : goal.invariant_of-result
 invariant_of-result g c = let front = g.T.Counted.front_of in let e = c.in_ok-seat.ensures.seat in record {
