@@ -6,7 +6,8 @@ use Rattle.unl_keeper.specs.declared.refusal.KeepRefusal.TheVariants.{Fault, Mem
 use Rattle.unl_keeper.specs.declared.memory_keeper.KeepFail.{KeepFail}
 use Rattle.unl_keeper.specs.State.{KeeperState, MakerState}
 
--- the calls that are to fail with `Fault`, the number of calls so far, and the number of those that failed with `Fault`
+-- the calls that are to fail with `Fault`, the number of calls so far (without those that ran out of memory), and the number of those that
+-- failed with `Fault`
 pub record Counting : Type 0 where
   pub failing : List KeepFail
   pub calls : ℕ

@@ -32,7 +32,7 @@ HasAtMostOneMore keeper = IfSome keeper.rows (λ list. length list ≤ keeper.co
 
 -- ---- opening
 
--- the keeper is open and keeps `count` rows, which is every row there is
+-- the keeper is open and keeps `count` rows, which are all of its rows
 pub record KeepsAll (keeper : KeeperState) (count : ℕ) : Type 0 where
   pub opened : keeper.opened ≡ true
   pub counted : count ≡ keeper.count

@@ -10,8 +10,8 @@ use unl_documents::Text;
 /// Stores texts in rows numbered from 1. A kept row is one whose put succeeded, or that existed when the keeper was
 /// opened.
 pub trait Keeper {
-    /// The state that contracts use: whether the keeper is open, its fault count, the number of kept rows, and all
-    /// rows, if observable. The rows are the kept ones, then what a failed put left.
+    /// The state that contracts use: whether the keeper is open, its fault count (which saturates at 2^64 - 1), the
+    /// number of kept rows, and all rows, if observable. The rows are the kept ones, then what a failed put left.
     ghost state: { Self → KeeperState };
 
     /// Opens the keeper and returns the number of kept rows. From then on every existing row is kept, including a row

@@ -20,7 +20,7 @@ use unl_documents::{List, Text};
 pub struct KeepFail {
     /// The number of the call.
     pub call: u64,
-    /// If the call is a `put`: whether it writes its text after the kept rows before it fails. Ignored for other calls.
+    /// If the call is a `put`: whether it leaves its text in the row after the kept ones. Ignored for other calls.
     pub leaves: bool,
 }
 
@@ -196,7 +196,7 @@ impl Keeper for MemoryKeeper {
     }
 
     /// Fails with `Memory` if there is no memory for a copy of the text, even if this call is listed as failing. If the
-    /// text is copied, fails with `Fault` exactly if the call is listed.
+    /// text is copied, fails with `Fault` exactly if the call is listed. Otherwise it can still fail with `Memory`.
     fn put(&mut self, alloc: Global, text: &Text) -> Result<(), KeepRefusal>
         requires { self.old.opened ≡ true }
         ensures puts { PutsRow text.now (memory_state self.old) result (memory_state self.new) }
