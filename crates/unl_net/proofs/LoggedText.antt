@@ -41,7 +41,7 @@ spaces_of_one byte = by (nat_eq byte 32) refl
     by true is = search rules
     by false is = search rules
 
--- a prefix may be extended by a byte that may be logged and is no second space
+-- a prefix that may be logged, extended by the next byte, may be logged exactly if that byte may be logged and is no second space
 pub one_more : (prefix : List ℕ) (at : ℕ) (has_method : Bool) → at < length prefix → may_be_logged (take at prefix) ≡ true
     → has_method ≡ nat_lt 0 (spaces_in (take at prefix))
     → may_be_logged (take (at + 1) prefix) ≡ (is_loggable (get_or prefix at 0) && not (has_method && nat_eq (get_or prefix at 0) 32))
@@ -62,7 +62,7 @@ one_more prefix at has_method inside logged spaces =
     by true false space count logged is = search arith
     by false seen space count logged is = search arith
 
--- the longest prefix is all of the bytes if they may be logged
+-- the longest prefix of at most `n` bytes has `n` bytes if the first `n` bytes may be logged
 whole : (n : ℕ) (bytes : List ℕ) → may_be_logged (take n bytes) ≡ true → longest_prefix n bytes ≡ n
 unfolding longest_prefix
 whole zero bytes logged = refl
@@ -118,7 +118,7 @@ none_longer prefix at stops k longer = by (may_be_logged (take k prefix)) refl
         (ap may_be_logged (take-append-drop (at + 1) (take k prefix)) ∙ is) in
         sym cut ∙ ap may_be_logged (take-take (at + 1) k prefix more) ∙ stops
 
--- the bytes before the next one are the longest prefix if the next one may not be logged
+-- the bytes before the next one are the longest prefix if the next one may not be logged or is a second space
 pub no_more : (prefix : List ℕ) (at : ℕ) (has_method : Bool) → at < length prefix → may_be_logged (take at prefix) ≡ true
     → has_method ≡ nat_lt 0 (spaces_in (take at prefix))
     → (is_loggable (get_or prefix at 0) && not (has_method && nat_eq (get_or prefix at 0) 32)) ≡ false

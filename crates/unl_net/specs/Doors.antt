@@ -9,8 +9,8 @@ use Rattle.unl_net.specs.declared.counts.Counts.{Counts}
 use Rattle.unl_net.specs.declared.listener.Accepting.{Accepting}
 use Rattle.unl_net.specs.declared.reactor.Reactor.{Reactor}
 
--- The state of the door as the contracts of `Door` see it. It is closed once its last link has been handed out, or
--- once 2^64 - 1 links have been. The bytes that its links read and write are not observable.
+-- The state of the door as the contracts of the trait `Door` see it. It is closed once its last link has been handed out, or once 2^64 - 1
+-- links have been. The bytes that its links read and write are not observable.
 abbrev pub door_state : List ℕ → Counts → DoorState
 door_state ports counts = record {
   ports = ports;

@@ -1,4 +1,4 @@
--- How a connection ends while it waits at the door and no worker serves it (as a link), and how such ends are counted.
+-- How a connection ends while the door holds it, that is, while no worker serves it as a link, and how such ends are counted.
 use Rattle.std.specs.Prelude.{◌≡◌, ◌<◌, ◌≤◌, ◌+◌, ◌-◌, ◌^◌, ℕ, ⊤, Option, Some, None, min, nat_le, true}
 use Rattle.std.specs.declared.time.Instant.{Instant}
 use Rattle.unl_net.specs.Moments.{seconds_between}
@@ -12,7 +12,7 @@ use Rattle.unl_net.specs.declared.phase.Phase.{Phase}
 use Rattle.unl_net.specs.declared.phase.Phase.TheVariants.{Idle, Receiving, Ready, Sending, Draining, Over}
 
 -- A connection that has been in this phase since that moment may end for this reason. `now` is when the time was checked, and `began` when
--- accepting failed for good: the door ends its connections 30 seconds later.
+-- accepting failed for good: the door ends its connections at least 30 seconds later.
 abbrev pub MayEnd : EndReason → Phase → Option Instant → Type 0
 MayEnd Done phase since = phase ≡ Over
 MayEnd (Failed fault) phase since = ⊤
@@ -49,9 +49,10 @@ abbrev pub with_cut_if_any : Option Cut → Cuts → Cuts
 with_cut_if_any None cuts = cuts
 with_cut_if_any (Some cut) cuts = with_cut cut cuts
 
--- No connection is lost between two moments: each of those held at the first, and of `more` that came since, is held at the second or was
--- counted as ended. `held` is how many wait or are ready at the first, and `ended` how many were counted as ended by then; `held_now`
--- and `ended_now` are these numbers at the second. Once the count of those that ended has stopped at the largest u64, nothing is said.
+-- No connection is lost between two moments: each that was held at the first, and each of the `more` that came since, is held at the second
+-- or was counted as ended. `held` is how many wait or are ready at the first, and `ended` how many were counted as ended by then;
+-- `held_now` and `ended_now` are these numbers at the second. Once the count of those that ended has stopped at the largest u64, nothing
+-- is said.
 unfoldable pub Accounts : ℕ → ℕ → ℕ → ℕ → ℕ → Type 0
 Accounts more held ended held_now ended_now =
     ended_now < 2 ^ 64 - 1 → (ended ≤ ended_now) × (held_now + ended_now ≡ held + ended + more)

@@ -9,6 +9,7 @@ use Rattle.unl_net.specs.declared.exchange.Exchange.{Exchange}
 abbrev pub seconds_left : Exchange → Option Instant → ℕ
 seconds_left exchange now = 30 - seconds_between exchange.begun now
 
--- whether the server is not asked at `now`: it used up the time of an exchange less than 5 seconds ago
+-- whether the server is not asked at `now`: it used up the time of an exchange less than 5 seconds ago; if `now` is unknown,
+-- no time counts as passed
 abbrev pub rests : Exchange → Option Instant → Bool
 rests exchange now = option_map_or (λ _. nat_lt (seconds_between exchange.over now) 5) exchange.over false

@@ -30,7 +30,7 @@ waits Sending = true
 waits Draining = true
 waits Over = false
 
--- for how many seconds a connection in this phase may wait for its client, counted anew when bytes are sent; 0 if it does not wait for it
+-- for how many seconds a connection in this phase may wait, counted again from 0 when bytes are sent; 0 if it does not wait for its client
 abbrev pub limit_of : Phase → ℕ
 limit_of Idle = 75
 limit_of Receiving = 30

@@ -4,8 +4,8 @@ ghost use Rattle.std.specs.Prelude.{◌≡◌, ◌≢◌, ◌+◌, ◌-◌, ◌=
 use std::alloc::{AllocError, Global};
 use unl_http_api::{Frame, request_frame};
 
-/// Received bytes. A link may read only those that were opened: a whole request, bytes that are refused (no request can
-/// begin with them), or all bytes (`open_all`).
+/// Received bytes. A link (which serves the requests of the connection) may read only those that were opened: a whole
+/// request, bytes that are refused (no request can begin with them), or all bytes (`open_all`).
 #[derive(Drop)]
 pub(crate) struct ReceiveBuffer {
     bytes: Vec<u8>,

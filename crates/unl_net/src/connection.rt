@@ -1,5 +1,5 @@
-//! A connection of a door. While it waits for the client or for a link, the reactor of the door holds it. While its
-//! requests are served, a link holds it.
+//! A connection that a door has accepted. While it waits for its client or to be handed out as a link, the door's
+//! reactor holds it. While its requests are served, a link holds it, which reads the requests and sends the replies.
 ghost use Rattle.std.specs.Prelude.{◌≡◌, ◌==◌, ◌≤◌, ◌||◌, [], false, length, nat_le, IfOk, IfSome};
 ghost use Rattle.std.specs.Io.KnownBytes.{Keeps, WriteAppends};
 ghost use Rattle.unl_net.specs.Buffers.{HasPrefix, ConsumesReturnedIfAny, coming, facts_of, outgoing, unread, unsent};
@@ -23,7 +23,7 @@ const CALL_TIMEOUT: u64 = 10;
 /// The size of one read, in bytes.
 pub(crate) const PIECE: usize = 4_096;
 
-/// A bound on each loop of reads: more pieces than the longest request has.
+/// A bound on each loop of reads: more pieces of that size than the longest request has.
 const MOST_PIECES: usize = 300;
 
 /// A connection, with the received bytes that no link has read yet, and the bytes that are still to be sent.
@@ -392,8 +392,8 @@ impl<S: Read + Write + OpenStream + Drop> Connection<S> {
         ensures kept { Keeps (coming self.old.received (S.remaining self.old.stream))
             (coming self.new.received (S.remaining self.new.stream)) }
     {
-        // Nothing comes after the end of the stream. (The caller reads on after a piece that leaves the request
-        // unfinished, because no later event tells it if the end of the stream is there already.)
+        // Nothing comes after the end of the stream. (After a piece that leaves the request unfinished, the caller
+        // reads on: if the stream has already ended, no later event reports that.)
         if self.ended {
             return Ok(false);
         }

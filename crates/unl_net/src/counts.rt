@@ -1,4 +1,4 @@
-//! The counts of the links of a door.
+//! How many links a door has handed out (connections to be served) and taken back.
 ghost use Rattle.std.specs.Prelude.{◌≤◌};
 
 /// How many links a door has handed out and taken back. If `closed`, the door hands out no more links.

@@ -19,9 +19,10 @@ pub(crate) enum Cut {
     SlowRequest,
     /// The client took no byte of a reply in time.
     SlowReader,
-    /// The door had no room or no file descriptor for another connection, and closed this one to free some.
+    /// There was no room, no file descriptor or no memory for a further connection, so the door closed this one.
     Room,
-    /// The connection's memory was needed, or an allocation for it failed.
+    /// The waiting connections together had received too many bytes, and this one the most. Or there was no memory to
+    /// let this one wait or to make it ready for a link.
     Memory,
 }
 
@@ -30,7 +31,7 @@ pub(crate) enum Cut {
 pub(crate) enum EndReason {
     /// The client has shut down its side, and nothing is left to be sent.
     Done,
-    /// A call of its stream failed, or the door's wait for events failed.
+    /// A call of its stream failed, there was no memory for its received bytes, or the door's wait for events failed.
     Failed(io::Error),
     /// The connection has waited for as long as its phase allows. The field is the moment at which this was checked.
     Late(Option<Instant>),

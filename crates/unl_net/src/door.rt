@@ -34,7 +34,8 @@ const SHORT_WAIT: u64 = 10;
 
 /// A door over the network. It listens on all IPv6 and IPv4 addresses of this machine if one socket can do both,
 /// otherwise on all IPv4 addresses. It holds the connections that wait for their clients, and hands one out as a link
-/// once a whole request was received, or bytes that are refused. A connection may be several links, one after another.
+/// once a whole request was received, or bytes that are refused (no valid request begins with them). The same
+/// connection may be handed out several times, as one link after another.
 #[derive(Drop)]
 pub struct RealDoor<N: Net + Clock + Eprint + Wait + Copy + Drop> {
     net: N,
@@ -51,9 +52,9 @@ pub struct RealDoor<N: Net + Clock + Eprint + Wait + Copy + Drop> {
 }
 
 impl<N: Net + Clock + Eprint + Wait + Copy + Drop> RealDoor<N> {
-    /// A door that doesn't listen yet and has counted no fault. It accepts `bound` connections and closes with their
-    /// last link (a bound of 0: at once); without a bound it accepts 2^64 - 1. `workers`: how many worker threads serve
-    /// links at the same time, or 0 if the thread that calls `accept` serves them.
+    /// A door that doesn't listen yet and has counted no fault. It accepts `bound` connections (2^64 - 1 without a
+    /// bound), and closes when it hands out the last link of these, or at once if the bound is 0. `workers`: how many
+    /// worker threads serve links at the same time, or 0 if the thread that calls `accept` serves them.
     ///
     /// # Errors
     /// Out of memory.
@@ -171,8 +172,8 @@ fn next_link_if_any<N: Net + Clock + Eprint + Wait + Copy + Drop>(
     Err(io::Error::from(ErrorKind::NotConnected))
 }
 
-/// Hands out a connection that is ready, and returns whether it is the last link. Returns `None` if no connection is
-/// ready, or if `MOST_IN_A_ROW` were handed out since the door last waited for events.
+/// Hands out a connection that is ready. Returns its link, and whether this is the last link. Returns `None` if no
+/// connection is ready, or if `MOST_IN_A_ROW` were handed out since the door last waited for events.
 ///
 /// # Errors
 /// Out of memory.
@@ -238,7 +239,7 @@ fn accept_more<N: Net + Clock + Eprint + Wait + Copy + Drop>(
 }
 
 /// Whether the door is finished: no more connections are accepted, none waits or is ready, and the door need not wait
-/// for the links that are out ([`Reactor::needs_no_link`] says when).
+/// until its links return their connections ([`Reactor::needs_no_link`] says when).
 #[tactic(auto, using(crate::proofs::Accounting::unchanged))]
 fn is_finished<N: Net + Clock + Eprint + Wait + Copy + Drop>(
     net: &N,
@@ -298,8 +299,8 @@ fn wait_for_events<N: Net + Clock + Eprint + Wait + Copy + Drop>(
     sweep_and_log(net, reactor, accepting, reports);
 }
 
-/// Waits for events, and handles them. If that fails, it fails for good: the error is noted, and no connection waits
-/// any more.
+/// Waits for events, and handles them. If the wait fails, it counts as failed for good: no more connections are
+/// accepted, and those that wait end, as far as there is memory to note their keys.
 #[tactic(auto, using(crate::proofs::Accounting::step))]
 fn wait<N: Net + Clock + Eprint + Wait + Copy + Drop>(
     net: &N,
@@ -332,8 +333,8 @@ fn wait_limit<S: Read + Write + OpenStream + AsRawFd + Drop>(
     }
 }
 
-/// Hands out the first connection that is ready, if there is one, and returns whether it is the last link. The link's
-/// pointer to the shared state is cloned first: if that fails, the connection stays ready.
+/// Hands out the first connection that is ready, if there is one. Returns its link, and whether this is the last link.
+/// The link's pointer to the shared state is cloned first: if that fails, the connection stays ready.
 ///
 /// # Errors
 /// Out of memory.
@@ -413,11 +414,11 @@ impl<N: Net + Clock + Eprint + Wait + Copy + Drop> Door for RealDoor<N> {
 
     /// Hands out a connection from which a whole request was received, or bytes that are refused. Once all connections
     /// that the door's bound allows were accepted, it hands out each one even before a request was received, and closes
-    /// only with the last of these links.
+    /// when it hands out the last of them.
     ///
     /// If accepting fails for good, the existing connections continue to wait for their requests. Each is closed after
-    /// its requests are answered. The door fails when none is left, after 30 seconds at most. If waiting for events
-    /// fails for good, the door hands out the connections from which a whole request was received, and then fails.
+    /// its requests are answered. This function fails when none is left, or after about 30 seconds. If waiting for
+    /// events fails for good, it hands out the connections from which a whole request was received, and then fails.
     ///
     /// No connection is lost: each one that the door held before, that was accepted meanwhile, or that a link returned,
     /// is now the link, waits, is ready, or was counted as ended.

@@ -11,8 +11,9 @@ use std::random::RandomSource;
 use std::time::Clock;
 use unl_base::{Draw, Draws, RealDraws};
 
-/// A supply of draws. A draw is a time and a random word. The times come from a clock, and the words from a PCG
-/// generator, which is unfit for secrets.
+/// A supply of draws. A draw is a time, in milliseconds since 1970 (at most 100,000,000,000,000), and a random word of
+/// 64 bits. The times come from a clock: if it fails, a draw repeats the last time that was read, or has the time 0 if
+/// none was read. The words come from a PCG generator, which is unfit for secrets.
 ///
 /// The generator's seed is random bytes of the system, so that programs that start in the same millisecond draw
 /// different words. If the system's random source fails, the seed is the time.

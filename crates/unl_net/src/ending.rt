@@ -19,7 +19,7 @@ use std::net::OpenStream;
 use std::os::fd::AsRawFd;
 use std::time::Instant;
 
-/// The most received bytes (of unfinished requests) of all waiting connections together.
+/// The maximum number of received bytes that all waiting connections together may hold.
 const MOST_RECEIVED: u64 = 67_108_864;
 
 /// How many connections are closed at once if the system has no more file descriptors, or no memory for one.
@@ -78,9 +78,9 @@ impl<S: Read + Write + OpenStream + AsRawFd + Drop> Reactor<S> {
         }
     }
 
-    /// Closes the connection that has waited longest, or, if any is idle (nothing of its next request was received),
-    /// the idle one that has waited longest. Returns false if none waits. A connection that has waited since an unknown
-    /// moment isn't considered.
+    /// Closes the idle connection (nothing of its next request was received) that has waited longest, or, if none is
+    /// idle, the one of all waiting connections that has waited longest. A connection that has waited since an unknown
+    /// moment isn't considered. Returns false if there is none to close.
     #[tactic(auto, using(crate::proofs::Accounting::same))]
     pub(crate) fn close_oldest(&mut self) -> bool
         ensures accounts { Accounts 0 (slab_len self.old.waiting + deque_len self.old.ready) self.old.ended
@@ -226,8 +226,9 @@ impl<S: Read + Write + OpenStream + AsRawFd + Drop> Reactor<S> {
 
     /// Notes that as many connections were accepted as the bound allows. From now on each connection from which a
     /// request may still come is ready for a link, even before a request was received. The link serves it until the
-    /// connection ends. The door closes when it hands out the last connection. If memory runs out while the keys of the
-    /// waiting connections are collected, the rest become ready for a link once a whole request was received.
+    /// connection ends. The door closes when it hands out the last connection. Two kinds of connections become ready
+    /// only once a whole request was received: those with bytes still to be sent, and those whose keys there is no
+    /// memory to note.
     pub fn note_accepted_all(&mut self)
         ensures accounts { Accounts 0 (slab_len self.old.waiting + deque_len self.old.ready) self.old.ended
             (slab_len self.new.waiting + deque_len self.new.ready) self.new.ended }
@@ -303,8 +304,8 @@ fn note_keys<S: Read + Write + OpenStream + AsRawFd + Drop>(
     }
 }
 
-/// Whether a connection with this number of received bytes has more than `largest`, the choice among the connections
-/// before it.
+/// Whether this number of received bytes is more than that of `largest`, the connection with the most received bytes so
+/// far. True if there is none yet.
 fn is_more(received: usize, largest: &Option<(usize, usize)>) -> bool {
     match largest {
         None => true,
@@ -312,8 +313,8 @@ fn is_more(received: usize, largest: &Option<(usize, usize)>) -> bool {
     }
 }
 
-/// Whether a connection is to be closed rather than `oldest`, the choice among the connections before it: an idle
-/// connection is closed before a busy one, and of two idle or two busy ones, the one that has waited longer.
+/// Whether a connection is to be closed rather than `oldest`, the choice so far: an idle connection is closed before a
+/// busy one, and of two idle or two busy ones, the one that has waited longer.
 fn is_older(is_busy: bool, since: Instant, oldest: &Option<(bool, Instant, usize)>) -> bool {
     match oldest {
         None => true,

@@ -15,9 +15,13 @@ use std::sync::{Arc, Wait};
 use std::time::Clock;
 use unl_base::{Failed, Link, Sink, Source};
 
-/// A link over a connection. It reads whole requests only, except at the stage `Open` of its [`ServedConnection`]. It
-/// ends once it has replied to these and no further whole request was received. Its connection then goes back to the
-/// door, which can hand it out again as another link.
+/// A link over a connection. It reads whole requests only. It ends once it has replied to these and no further whole
+/// request was received in time. Its connection then goes back to the door, which can hand it out again as another
+/// link.
+///
+/// In three cases it reads all bytes as they come instead, and the connection ends with the link: if the bytes are
+/// refused (no valid request begins with them), if its user reads on after a whole request before it replies, and once
+/// the door has accepted all connections that its bound allows.
 #[derive(Drop)]
 pub struct RealLink<S: Read + Write + OpenStream + Drop, C: Clock + Wait + Drop> {
     served: ServedConnection<S, C>,
@@ -76,8 +80,8 @@ impl<S: Read + Write + OpenStream + Drop, C: Clock + Wait + Drop> Sink for RealL
 
     ghost other_parts = { λ _. no_other_parts };
 
-    /// Sends the piece, and returns how many bytes were sent or kept: bytes that the client doesn't take yet are kept,
-    /// to be sent later. On an error, or if no byte was sent or kept, the fault count is incremented.
+    /// Sends the piece, and returns how many bytes were sent or kept: bytes that the client doesn't take yet are kept
+    /// if possible, to be sent later. On an error, or if no byte was sent or kept, the fault count is incremented.
     fn write(&mut self, piece: &[u8]) -> Result<usize, Failed>
         requires { 0 < length piece.now }
         ensures some { IfOk result (λ n. 0 < n) }

@@ -326,8 +326,8 @@ fn note_if_accepted_all<S: Read + Write + OpenStream + AsRawFd + Drop>(
     }
 }
 
-/// Listens at a port: on IPv6 and IPv4 if one IPv6 socket serves both, otherwise on IPv4. The IPv6 socket serves both
-/// if no IPv4 socket can be bound at the same port as well.
+/// Listens at a port: on IPv6 and IPv4 if one IPv6 socket serves both, otherwise on IPv4. The IPv6 socket is taken to
+/// serve both if no IPv4 socket can be bound at the same port as well.
 ///
 /// # Errors
 /// Neither an IPv6 nor an IPv4 socket can be bound at the port.
@@ -349,7 +349,7 @@ fn bind_four<N: Net>(net: &N, port: u16) -> io::Result<N::Listener> {
 /// Listens at a port, with a reactor for its connections. `most` is the limit on their number ([`Reactor::new`]).
 ///
 /// # Errors
-/// The port can't be listened at, or out of memory.
+/// Listening at the port or registering for its events failed, or out of memory.
 fn open_at<N: Net>(
     alloc: Global,
     net: &N,
@@ -373,7 +373,7 @@ pub(crate) fn log_open<N: Eprint, L: OpenListener>(net: &N, listener: &L, log: &
 /// Opens a listener at a port, with a reactor for its connections, and appends the port to `ports`.
 ///
 /// # Errors
-/// The port can't be listened at, or out of memory. `ports` is unchanged.
+/// Listening at the port or registering for its events failed, or out of memory. `ports` is unchanged.
 pub(crate) fn open_one_more<N: Net>(
     alloc: Global,
     net: &N,

@@ -17,9 +17,9 @@ use std::time::{Clock, Duration};
 use unl_base::{Failed, Link, Peer, Sink, Source};
 
 /// The client side of a connection to a server. Each connect makes a new connection, to the first address of the server
-/// that accepts one. An exchange takes 30 seconds at most, from the connect to the last byte; only the time of looking
-/// up the server's name is not bounded. After an exchange that used up its time, connects fail at once for 5 seconds:
-/// of several callers that ask a hanging server in turn, only the first one waits.
+/// that accepts one. An exchange takes about 30 seconds at most, from the connect to the last byte; only the time of
+/// looking up the server's name is not bounded. After an exchange that used up its time, connects fail at once for 5
+/// seconds: of several callers that ask a hanging server in turn, only the first one waits.
 #[derive(Drop)]
 pub struct RealPeer<N: Net + Clock + Eprint + Drop, A: ToSocketAddrs + Display> {
     net: N,
@@ -59,7 +59,7 @@ impl<N: Net + Clock + Eprint + Drop, A: ToSocketAddrs + Display> RealPeer<N, A> 
     }
 }
 
-/// Sets the time limit of a stream's calls to the seconds that are left, if these differ from `limit`, the present one.
+/// Sets the time limit of a stream's calls to the seconds that are left, unless that is the limit already (`limit`).
 ///
 /// # Errors
 /// `TimedOut` if no second is left, or the error of the stream.
@@ -185,8 +185,8 @@ impl<N: Net + Clock + Eprint + Drop, A: ToSocketAddrs + Display> Sink for RealPe
 
     ghost other_parts = { λ peer. record no_other_parts { connected = is_some peer.stream } };
 
-    /// Writes to the connection that the last `connect` made, and returns how many bytes it took. If there is none, the
-    /// whole piece is dropped. If the write fails or takes no byte, the fault count is incremented.
+    /// Writes to the connection that the last `connect` made, and returns how many bytes it took. If there is none,
+    /// drops the piece and returns its length. If the write fails or takes no byte, the fault count is incremented.
     fn write(&mut self, piece: &[u8]) -> Result<usize, Failed>
         requires { 0 < length piece.now }
         ensures some { IfOk result (λ n. 0 < n) }

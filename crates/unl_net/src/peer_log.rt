@@ -53,8 +53,8 @@ impl<A: ToSocketAddrs + Display> PeerLog<A> {
     }
 
     /// Notes that a piece of a request is written. If the last reply to this kind of request was a feed, the new
-    /// request shows whether this program accepted the feed: if so, it has the feed's tag. Logs the feed's status, if
-    /// its class has changed.
+    /// request shows whether this program accepted the feed: if so, the request has the feed's tag. Logs the feed's
+    /// status, if its class has changed: 200 to 299 and 304 are one class, and any other status is its own class.
     pub fn note_written<E: Eprint>(&mut self, to: &E, piece: &[u8]) {
         let status = self.statuses.note_written(piece);
         self.log_status(to, status);

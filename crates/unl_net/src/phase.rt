@@ -1,5 +1,5 @@
-//! What a connection waits for while no link serves it. Received bytes are refused if no valid request begins with
-//! them, whatever follows.
+//! What a connection waits for while no link serves it (reads its requests and sends the replies). Received bytes are
+//! refused if no valid request begins with them, whatever follows.
 ghost use Rattle.std.specs.Prelude.{◌≡◌, true, false};
 ghost use Rattle.unl_net.specs.Phases.{limit_of, phase_of, waits};
 ghost use Rattle.unl_net.specs.declared.phase.Phase.TheVariants.{Over, Ready};
@@ -77,8 +77,8 @@ impl Phase {
         }
     }
 
-    /// For how many seconds a connection in this phase may wait for its client, counted anew when bytes are sent; 0 if
-    /// it doesn't wait for its client.
+    /// For how many seconds a connection in this phase may wait for its client (chosen by this project). The time
+    /// begins again when bytes are sent. 0 if the connection doesn't wait for its client.
     pub fn limit(self) -> u64
         ensures { result ≡ limit_of self }
     {

@@ -55,7 +55,7 @@ pub(crate) struct Reactor<S: Read + Write + OpenStream + AsRawFd + Drop> {
     /// The number of received bytes in the buffers of all connections that wait.
     pub(crate) received: u64,
     /// The maximum number of connections, including those of links. If links hold all connections, more are accepted
-    /// nevertheless. `note_shortage` lowers it.
+    /// nevertheless. `note_shortage` changes it.
     most: usize,
     /// How many connections have ended here. It stops at 2^64 - 1.
     pub(crate) ended: u64,
@@ -284,9 +284,9 @@ impl<S: Read + Write + OpenStream + AsRawFd + Drop> Reactor<S> {
         }
     }
 
-    /// Drops a connection that may end for this reason, and counts it as ended. If the door closes with its last link
-    /// and this is the last connection, it is made ready for a link instead: the door closes only when it hands out a
-    /// link.
+    /// Drops a connection that may end for this reason, and counts it as ended. But if the door closes when it hands
+    /// out its last connection (`closes`), and no other one waits or is ready, this one is made ready for a link
+    /// instead: only by handing it out can the door close.
     #[tactic(auto, using(crate::proofs::Accounting::ended))]
     pub(crate) fn finish(&mut self, connection: Connection<S>, reason: EndReason)
         requires { MayEnd reason (phase_of (facts_of connection.received connection.to_send connection.closing connection.ended))
@@ -385,7 +385,7 @@ impl<S: Read + Write + OpenStream + AsRawFd + Drop> Reactor<S> {
     }
 
     /// Waits for events, for `most` milliseconds at most, and handles them. A signal ends the wait early. So does a
-    /// link that gives a connection back, if [`SharedWithLinks::note_sleep`] was called before.
+    /// link that gives a connection back, if [`SharedWithLinks::note_sleep`] was called with true before.
     ///
     /// # Errors
     /// The error of the system.

@@ -1,5 +1,5 @@
-//! The counts of a door, and when it logs them. The connections that were cut off and the replies with a status of 500
-//! or more are logged once a minute at most.
+//! The counts of a door, which accepts connections and hands them out as links, and when it logs them. The connections
+//! that were cut off and the replies with a status of 500 or more are logged once a minute at most.
 ghost use Rattle.std.specs.Prelude.{◌≡◌, ◌+◌, ◌-◌, ◌^◌, min};
 
 use crate::cuts::{Cuts, EachMinute};
@@ -13,7 +13,7 @@ pub(crate) struct Reports {
     errors: EachMinute,
     /// How many replies had a status of 500 or more since their number was last logged.
     server_errors: u64,
-    /// How many links were handed out since the door last waited for events.
+    /// How many links were handed out one after another since the door last handled events.
     pub in_a_row: u64,
     /// How many connections were accepted, or returned by links. It never falls, and stops at 2^64 - 1.
     arrived: u64,
@@ -38,7 +38,8 @@ impl Reports {
         self.arrived = self.arrived.saturating_add(count);
     }
 
-    /// Logs how many connections were cut off since the last such line, if that is due. `cuts` then begins again at 0.
+    /// Logs how many connections were cut off since the last such line, unless there were none or that line is less
+    /// than a minute old. If it logs, `cuts` begins again at 0.
     pub fn log_cuts<E: Eprint>(
         &mut self,
         to: &E,
@@ -53,8 +54,8 @@ impl Reports {
         }
     }
 
-    /// Counts `count` more replies with a status of 500 or more. Logs how many there were since the last such line, if
-    /// that is due.
+    /// Counts `count` more replies with a status of 500 or more. Logs how many there were since the last such line,
+    /// unless there were none or that line is less than a minute old.
     pub fn log_server_errors<E: Eprint>(
         &mut self,
         to: &E,

@@ -73,7 +73,7 @@ pub(crate) struct RequestKind {
 }
 
 impl RequestKind {
-    /// The kind of a request with these first bytes. A header field that is not among them is not considered.
+    /// The kind of a request with these first bytes. Only header fields among them are considered.
     pub fn of(request: &[u8]) -> Self
         ensures { take result.len result.text ≡ logged_text request.now }
     {
@@ -118,7 +118,7 @@ fn copy_prefix(bytes: &[u8], room: &mut [u8], count: usize)
     room[..count].copy_from_slice(&bytes[..count]);
 }
 
-/// The first line of a request that begins with `name`, in this letter case, or no bytes if there is none.
+/// The first line in a request to begin with `name` (case-sensitive), or no bytes if none does.
 fn line_of<'a>(request: &'a [u8], name: &[u8]) -> &'a [u8] {
     for line in request.split(|byte| *byte == b'\n') {
         if line.starts_with(name) {

@@ -1,4 +1,5 @@
-//! A connection while a link serves it.
+//! A connection while a link serves it. A door accepts connections, holds those that wait for their clients, and hands
+//! out the others as links, each of which a worker serves.
 ghost use Rattle.std.specs.Prelude.{◌≡◌, ◌≤◌, ◌++◌, drop, false, length, take, true, IfOk, MatchResult, OnErr};
 ghost use Rattle.std.specs.Io.KnownBytes.{Appends, Keeps, WriteAppends};
 ghost use Rattle.unl_net.specs.Buffers.{ConsumesReturned, coming, outgoing, unsent};
@@ -27,14 +28,14 @@ const MOST_WAITS_ALONE: u64 = 64;
 /// The maximum number of pieces (of 4,096 bytes at most) that are read of an unfinished request.
 const MOST_REQUEST_PIECES: u64 = 300;
 
-/// The stage of a link.
+/// The stage of a link. A request is opened once it is whole: only then may the link read it.
 #[derive(Clone, Copy, PartialEq)]
 enum LinkStage {
     /// Each opened request has a reply, or at least its first piece.
     Answered,
     /// A request was opened for the link to read, and nothing of its reply was written yet.
     Asked,
-    /// All bytes are read as they come, and the connection ends with the link.
+    /// All bytes are read as they come, and no further link serves the connection.
     Open,
     /// The link has ended between two requests, and its connection goes back to the door.
     Parked,
@@ -43,7 +44,7 @@ enum LinkStage {
 }
 
 /// A connection while a link serves it. The link reads whole requests only, except at the stage `Open`. It ends once it
-/// has replied to these and no further one was received in time.
+/// has replied to the opened requests, and no further request is received in time or bytes of a reply are kept unsent.
 pub(crate) struct ServedConnection<S: Read + Write + OpenStream + Drop, C: Clock + Wait + Drop> {
     connection: Connection<S>,
     shared: Arc<SharedWithLinks<S>>,
@@ -55,7 +56,8 @@ pub(crate) struct ServedConnection<S: Read + Write + OpenStream + Drop, C: Clock
 }
 
 impl<S: Read + Write + OpenStream + Drop, C: Clock + Wait + Drop> ServedConnection<S, C> {
-    /// Begins to serve a connection. `alone`: the door has no other connection.
+    /// Begins to serve a connection. `alone`: the door has no other connection. Only then may the link wait for a
+    /// further request if the thread that accepts also serves it.
     pub fn new(
         alloc: Global,
         clock: C,
@@ -95,8 +97,8 @@ impl<S: Read + Write + OpenStream + Drop, C: Clock + Wait + Drop> ServedConnecti
     /// Writes once. Returns how many bytes of the piece were sent or kept to be sent later.
     ///
     /// # Errors
-    /// The error of the stream. `TimedOut` if the stream took no byte in time, or if it took none at once, the piece
-    /// can't be kept, and other links wait for a worker.
+    /// The error of the stream. `TimedOut` if the stream took no byte of the piece in time, or if it took none at once,
+    /// the piece can't be kept, and other links wait for a worker (unless the door has accepted all its connections).
     pub fn write(&mut self, piece: &[u8]) -> io::Result<usize>
         ensures fits { IfOk result (λ n. n ≤ length piece.now) }
         ensures appends { WriteAppends (outgoing (S.contents self.old.connection.stream) self.old.connection.to_send)
@@ -140,8 +142,9 @@ impl<S: Read + Write + OpenStream + Drop, C: Clock + Wait + Drop> ServedConnecti
         Ok(self.connection.received.read_opened(room))
     }
 
-    /// Whether the link may read. At the stage `Answered` this opens the next request, or, if the door has accepted all
-    /// its connections, changes the stage to `Open`.
+    /// Whether the link may read. At the stage `Answered`, opens the next request or, if the door has accepted all its
+    /// connections, changes the stage to `Open`. At the stage `Asked`, changes it to `Open` once the opened request is
+    /// read.
     ///
     /// # Errors
     /// The error of the stream, or out of memory.
@@ -161,7 +164,7 @@ impl<S: Read + Write + OpenStream + Drop, C: Clock + Wait + Drop> ServedConnecti
                 return self.next_request();
             }
             LinkStage::Asked => {
-                // A reader that reads on expects a longer request than the door does: it gets all bytes as they come.
+                // A caller that reads on expects a longer request than the door opened: it gets all bytes as they come.
                 if self.connection.received.opened_len() == 0 {
                     self.stage = LinkStage::Open;
                 }
@@ -171,8 +174,8 @@ impl<S: Read + Write + OpenStream + Drop, C: Clock + Wait + Drop> ServedConnecti
     }
 
     /// Opens the next request once it is whole, or all received bytes if they are refused, so that the link may read
-    /// them. Returns false if neither came in time, if bytes of a reply are still to be sent, or if the client has shut
-    /// down its side.
+    /// them. Returns false if neither came in time and within `MOST_REQUEST_PIECES` pieces, if bytes of a reply are
+    /// still to be sent, or if the client has shut down its side.
     ///
     /// # Errors
     /// The error of the stream, or out of memory.

@@ -1,4 +1,5 @@
-//! What a door shares with its links. A link is a connection that the door handed out to be served.
+//! What a door shares with its links. A door accepts connections; a link is a connection that it handed out to be
+//! served.
 
 use crate::connection::Connection;
 use mio::Waker;

@@ -10,15 +10,15 @@ use crate::request_kind::RequestKind;
 use std::fmt;
 use std::fmt::Display;
 
-/// How many kinds of requests the log distinguishes. The program uses fewer: one for the token book
+/// How many kinds of requests the log distinguishes. The program uses fewer: one to check tokens
 /// (`POST /edge/validate`), and two for each of at most eight tokens.
 const MOST_KINDS: usize = 32;
 
 /// The logged status if no reply with a status came.
 const NO_ANSWER: u16 = 1;
 
-/// The logged status of a feed that came with status 200 but was not taken, that is, this program did not accept it:
-/// the next request for the feed has no tag (`If-None-Match`).
+/// The logged status of a feed of flags that came with status 200 but was not taken, that is, this program did not
+/// accept it: the next request for the feed has no tag (`If-None-Match`).
 const NOT_TAKEN: u16 = 1_000;
 
 /// Whether a byte is an ASCII digit.
@@ -107,7 +107,8 @@ enum ExchangeStage {
     Answered,
 }
 
-/// What was requested on a peer's connection, and how the server last replied to each kind of request.
+/// What was requested on a connection of a peer (this program as the client of a server), and how the server last
+/// replied to each kind of request.
 #[derive(Clone, Copy)]
 pub(crate) struct StatusLog {
     stage: ExchangeStage,

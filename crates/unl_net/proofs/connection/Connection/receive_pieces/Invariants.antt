@@ -3,7 +3,7 @@ use Rattle.std.specs.Io.KnownBytes.{Keeps}
 use Rattle.unl_net.specs.Buffers.{HasPrefix, coming, unread}
 use Rattle.unl_net.proofs.connection.Connection.receive_pieces.Given as goal
 
--- the bytes to come are unchanged, and no received byte is lost
+-- the bytes to come and whether the connection is to be closed are unchanged, and no received byte is lost
 abbrev pub invariant-pieces : goal.invariant-pieces
 invariant-pieces g l = Keeps
     (coming l.initial.self.received (g.S.Read.remaining l.initial.self.stream))

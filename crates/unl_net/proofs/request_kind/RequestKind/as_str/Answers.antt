@@ -1,4 +1,4 @@
--- Bytes that may be logged are UTF-8.
+-- The bytes that are logged for a request are UTF-8, so the error case of `as_str` cannot occur.
 use Rattle.std.proofs.Common.{rules, take}
 use Rattle.unl_net.proofs.LoggedText.{is_text}
 use Rattle.unl_net.proofs.request_kind.RequestKind.as_str.Goals as goal
