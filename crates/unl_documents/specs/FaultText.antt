@@ -7,8 +7,9 @@ use Rattle.unl_documents.specs.declared.fault.BadDocument.TheVariants.{NotJson, 
 use Rattle.unl_documents.specs.declared.fault.BadDocument.TheVariants.{Memory}
 use Rattle.unl_documents.specs.Key.{key_of}
 
--- The text of a fault: the name of its `BadDocument` variant, the key, and the number, or the duplicate name or id as a
--- JSON string, as far as the fault has them, separated by spaces. The text of `Memory` is empty.
+-- The text of a fault, which is empty for `Memory`. For other faults, the text is the name of the variant, the key if
+-- there is one, and then the number of `TooLarge`, or the name or id of `DuplicateName` as a JSON string. The parts are
+-- separated by spaces. The format is chosen by this project.
 unfoldable pub fault_text : BadDocument → List ℕ
 fault_text NotJson = codes "NotJson"
 fault_text (Missing field) = codes "Missing " ++ key_of field

@@ -5,7 +5,7 @@ use Rattle.serde_json.specs.Data.{Data}
 use Rattle.serde_json.specs.Find.{as_object}
 use Rattle.serde_json.specs.Read.{read}
 
--- Passes the value of an `Ok` to the function on the right, as `Result::and_then`.
+-- Passes the value of an `Ok` to the function on the right, as `Result::and_then` does.
 infixl 10 ◌>>=◌
 -- An error on the left is the result; the function isn't applied.
 abbrev pub ◌>>=◌ : {A B E : Type 0} → Result A E → (A → Result B E) → Result B E

@@ -105,8 +105,8 @@ impl<T: Drop> ChunkedList<T> {
         item_at(self.chunks.as_slice(), place)
     }
 
-    /// Returns a list of the items of `self` followed by `items`. The result shares the chunks of `self`, but a new
-    /// chunk replaces the last one if that has room for all of `items`. The only error is out of memory.
+    /// Returns a list of the items of `self` followed by `items`. The result shares the chunks of `self`, except that
+    /// the last chunk is replaced by a new one if it has room for all of `items`. The only error is out of memory.
     pub fn append(&self, alloc: Global, items: &[Shared<T>]) -> Result<ChunkedList<T>, Memory>
         ensures { IfOk result (λ s. s ≡ self.now ++ items.now) }
     {
@@ -122,8 +122,9 @@ impl<T: Drop> TryClone for ChunkedList<T> {
     }
 }
 
-/// Removes the chunk at index `place` and returns its items. The references to the items are copied only if something
-/// else also refers to the chunk. The only error is out of memory; the chunk is then removed, too.
+/// Removes the chunk at index `place`, which must be below the number of chunks, and returns its items. The references
+/// to the items are copied only if something else also refers to the chunk. The only error is out of memory; the chunk
+/// is then removed, too.
 pub fn take_chunk<T: Drop>(
     alloc: Global,
     chunks: &mut List<Chunk<T>>,
@@ -148,8 +149,9 @@ fn owned<T: Drop>(alloc: Global, chunk: Chunk<T>) -> Result<List<Shared<T>>, Mem
     }
 }
 
-/// Returns the list of the items of `chunks`, with `chunk` inserted as the chunk at index `place`. `chunk` is split if
-/// it has more than 128 items and left out if it is empty. The only error is out of memory.
+/// Returns the list of the items of `chunks`, with `chunk` inserted as the chunk at index `place`, which must be at
+/// most the number of chunks. None of `chunks` may be empty. `chunk` is split if it has more than 128 items and left
+/// out if it is empty. The only error is out of memory.
 pub fn with_chunk<T: Drop>(
     alloc: Global,
     mut chunks: List<Chunk<T>>,
@@ -167,7 +169,7 @@ pub fn with_chunk<T: Drop>(
     Ok(ChunkedList { chunks })
 }
 
-/// As [`with_chunk`], but copies the references in `chunk` into new chunks, whatever its length.
+/// Like [`with_chunk`], but copies the references in `chunk` into new chunks, whatever its length.
 fn with_cut<T: Drop>(
     alloc: Global,
     chunks: &[Chunk<T>],

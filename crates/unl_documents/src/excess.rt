@@ -15,8 +15,8 @@ use crate::state::State;
 use crate::strategy::Strategy;
 
 /// Returns the number of constraints of the first strategy, in the order of features and strategies, that would have
-/// more than 100, or `None` if there is no such strategy. Doesn't allocate. The only error, `Memory`, means that a
-/// count doesn't fit into 64 bits.
+/// more than 100 after inlining, or `None` if there is no such strategy. Doesn't allocate. The only error, `Memory`,
+/// means that a count doesn't fit into 64 bits.
 #[tactic(auto, unfolding(crate::specs::Inline::first_excess))]
 pub(crate) fn first_excess(state: &State) -> Result<Option<u64>, Memory>
     ensures { IfOk result (λ found. found ≡ first_excess_of state.now) }

@@ -32,21 +32,21 @@ pub fn features_are_read()
     ensures fault { (value : Data) (e : BadDocument) → (document feature_of value ≡ Err e) ↔ (first_fault_of_feature value ≡ Some e) }
 {}
 
-/// As [`features_are_read`], for segments.
+/// Like [`features_are_read`], but for segments.
 pub fn segments_are_read()
     ensures read { (value : Data) (s : Segment)
         → (document segment_of value ≡ Ok s) ↔ (ReadsSegment value s × (first_fault_of_segment value ≡ None)) }
     ensures fault { (value : Data) (e : BadDocument) → (document segment_of value ≡ Err e) ↔ (first_fault_of_segment value ≡ Some e) }
 {}
 
-/// As [`features_are_read`], for states.
+/// Like [`features_are_read`], but for states.
 pub fn states_are_read()
     ensures read { (value : Data) (s : State)
         → (document state_of value ≡ Ok s) ↔ (ReadsState value s × (first_fault_of_state value ≡ None)) }
     ensures fault { (value : Data) (e : BadDocument) → (document state_of value ≡ Err e) ↔ (first_fault_of_state value ≡ Some e) }
 {}
 
-/// As [`features_are_read`], for feeds. The fault of a feed's `meta` object is the first fault of its keys.
+/// Like [`features_are_read`], but for feeds. The fault of a feed's `meta` object is the first fault of its keys.
 pub fn feeds_are_read()
     ensures read { (value : Data) (f : Feed) → (document feed_of value ≡ Ok f) ↔ (ReadsFeed value f × (first_fault_of_feed value ≡ None)) }
     ensures fault { (value : Data) (e : BadDocument) → (document feed_of value ≡ Err e) ↔ (first_fault_of_feed value ≡ Some e) }

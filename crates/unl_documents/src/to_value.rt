@@ -8,120 +8,146 @@ ghost use Rattle.unl_documents.specs.Writing.{with, with_some, count, list_data,
 
 use crate::chunked_list::{Chunk, ChunkedList};
 use crate::field::Field;
+use crate::kind::{AnyText, AnyWhole, Boolean};
 use crate::list::List;
 use crate::memory::Memory;
 use crate::shared::Shared;
 use crate::text::Text;
 use serde_json::{Map, Value};
 use std::alloc::Global;
+use std::marker::PhantomData;
 
-/// A type that can be converted to a JSON value.
-pub trait ToValue: Drop {
-    // The JSON value that represents `self`.
-    ghost written: { Self → Data };
+/// How the values of a type are written as JSON values.
+///
+/// A separate marker type implements this trait, such as `FeatureJson` for features. If `Feature` implemented it, the
+/// proof of every crate that names `Feature` would load the specification of JSON values. Loading that takes longer
+/// than many of the proofs.
+pub trait ToValue {
+    /// The type of the values that are written.
+    type In: Drop;
 
-    /// Returns the JSON value that represents `self`.
-    fn write(&self, alloc: Global) -> Result<Value, Memory>
-        ensures { IfOk result (λ v. view v ≡ written self.now) };
+    // The JSON value that represents a value.
+    ghost written: { Self.In → Data };
+
+    /// Returns the JSON value that represents `value`.
+    fn write(alloc: Global, value: &Self::In) -> Result<Value, Memory>
+        ensures { IfOk result (λ v. view v ≡ written value.now) };
 }
 
-impl ToValue for Text {
+impl ToValue for AnyText {
+    type In = Text;
+
     ghost written = { text_data };
 
-    fn write(&self, alloc: Global) -> Result<Value, Memory> {
-        Ok(Value::try_from_str(alloc, self.as_str())?)
+    fn write(alloc: Global, text: &Text) -> Result<Value, Memory> {
+        Ok(Value::try_from_str(alloc, text.as_str())?)
     }
 }
 
-impl ToValue for bool {
+impl ToValue for Boolean {
+    type In = bool;
+
     ghost written = { boolean };
 
-    fn write(&self, _alloc: Global) -> Result<Value, Memory> {
-        Ok(Value::from(*self))
+    fn write(_alloc: Global, value: &bool) -> Result<Value, Memory> {
+        Ok(Value::from(*value))
     }
 }
 
-impl ToValue for u32 {
+impl ToValue for AnyWhole {
+    type In = u64;
+
     ghost written = { count };
 
-    fn write(&self, _alloc: Global) -> Result<Value, Memory> {
-        Ok(Value::from(*self))
+    fn write(_alloc: Global, number: &u64) -> Result<Value, Memory> {
+        Ok(Value::from(*number))
     }
 }
 
-impl ToValue for u64 {
-    ghost written = { count };
+/// How a list is written as a JSON array, each item as `W` writes it.
+pub struct ListJson<W>(PhantomData<W>);
 
-    fn write(&self, _alloc: Global) -> Result<Value, Memory> {
-        Ok(Value::from(*self))
-    }
-}
+impl<W: ToValue> ToValue for ListJson<W> {
+    type In = List<W::In>;
 
-impl<W: ToValue> ToValue for List<W> {
     ghost written = { list_data W.written };
 
-    fn write(&self, alloc: Global) -> Result<Value, Memory> {
-        let values = each_written(alloc, self.as_slice())?;
+    fn write(alloc: Global, items: &List<W::In>) -> Result<Value, Memory> {
+        let values = each_written::<W>(alloc, items.as_slice())?;
         Ok(Value::Array(values))
     }
 }
 
-impl<W: ToValue> ToValue for ChunkedList<W> {
+/// How a chunked list is written as a JSON array, each item as `W` writes it.
+pub struct ChunksJson<W>(PhantomData<W>);
+
+impl<W: ToValue> ToValue for ChunksJson<W> {
+    type In = ChunkedList<W::In>;
+
     ghost written = { list_data W.written };
 
-    fn write(&self, alloc: Global) -> Result<Value, Memory> {
-        let values = each_of_chunks(alloc, self.chunks())?;
+    fn write(alloc: Global, items: &ChunkedList<W::In>) -> Result<Value, Memory> {
+        let values = each_of_chunks::<W>(alloc, items.chunks())?;
         Ok(Value::Array(values))
     }
 }
 
-impl<W: ToValue> ToValue for Shared<W> {
+/// How a shared value is written: as `W` writes the value.
+pub struct SharedJson<W>(PhantomData<W>);
+
+impl<W: ToValue> ToValue for SharedJson<W> {
+    type In = Shared<W::In>;
+
     ghost written = { W.written };
 
-    fn write(&self, alloc: Global) -> Result<Value, Memory> {
-        self.get().write(alloc)
+    fn write(alloc: Global, shared: &Shared<W::In>) -> Result<Value, Memory> {
+        W::write(alloc, shared.get())
     }
 }
 
-fn each_written<W: ToValue>(alloc: Global, items: &[W]) -> Result<Vec<Value>, Memory>
+fn each_written<W: ToValue>(alloc: Global, items: &[W::In]) -> Result<Vec<Value>, Memory>
     ensures { IfOk result (λ v. map view v.items ≡ map W.written items.now) }
 {
     let mut values = Vec::new(alloc);
-    push_each(alloc, &mut values, items)?;
+    push_each::<W>(alloc, &mut values, items)?;
     Ok(values)
 }
 
-fn each_of_chunks<W: ToValue>(alloc: Global, chunks: &[Chunk<W>]) -> Result<Vec<Value>, Memory>
+fn each_of_chunks<W: ToValue>(alloc: Global, chunks: &[Chunk<W::In>]) -> Result<Vec<Value>, Memory>
     ensures { IfOk result (λ v. map view v.items ≡ map W.written (joined chunks.now)) }
 {
     let mut values = Vec::new(alloc);
     for chunk in chunks {
-        push_each(alloc, &mut values, chunk.get().as_slice())?;
+        push_each::<SharedJson<W>>(alloc, &mut values, chunk.get().as_slice())?;
     }
     Ok(values)
 }
 
 /// Appends the JSON values of the items.
-fn push_each<W: ToValue>(alloc: Global, values: &mut Vec<Value>, items: &[W]) -> Result<(), Memory>
+fn push_each<W: ToValue>(
+    alloc: Global,
+    values: &mut Vec<Value>,
+    items: &[W::In],
+) -> Result<(), Memory>
     ensures { OnOk result (map view values.new.items ≡ map view values.old.items ++ map W.written items.now) }
 {
     for item in items {
-        values.push(item.write(alloc)?)?;
+        values.push(W::write(alloc, item)?)?;
     }
     Ok(())
 }
 
-/// Converts `value` to a JSON value and inserts it at a key, in place of any earlier value there.
+/// Converts `value` to a JSON value, as `W` writes it, and inserts it at a key, in place of any earlier value there.
 pub fn put<W: ToValue>(
     members: &mut Map<String, Value>,
     alloc: Global,
     field: Field,
-    value: &W,
+    value: &W::In,
 ) -> Result<(), Memory>
     ensures { OnOk result (members_view members.new.entries
         ≡ with field (W.written value.now) (members_view members.old.entries)) }
 {
-    put_value(members, alloc, field, value.write(alloc)?)
+    put_value(members, alloc, field, W::write(alloc, value)?)
 }
 
 /// Inserts a JSON value at a key, in place of any earlier value there.
@@ -138,23 +164,23 @@ pub fn put_value(
     Ok(())
 }
 
-/// As [`put`] with the value in `found`. Leaves `members` unchanged if `found` is `None`.
+/// Like [`put`], with the value in `found`. Leaves `members` unchanged if `found` is `None`.
 pub fn put_some<W: ToValue>(
     members: &mut Map<String, Value>,
     alloc: Global,
     field: Field,
-    found: &Option<W>,
+    found: &Option<W::In>,
 ) -> Result<(), Memory>
     ensures { OnOk result (members_view members.new.entries
         ≡ with_some field (option_map W.written found.now) (members_view members.old.entries)) }
 {
     if let Some(found) = found {
-        put(members, alloc, field, found)?;
+        put::<W>(members, alloc, field, found)?;
     }
     Ok(())
 }
 
-/// As [`put`] with `number`. Leaves `members` unchanged if `number` is 0.
+/// Like [`put`], with `number`. Leaves `members` unchanged if `number` is 0.
 pub fn put_unless_zero(
     members: &mut Map<String, Value>,
     alloc: Global,
@@ -164,7 +190,7 @@ pub fn put_unless_zero(
     ensures { OnOk result (members_view members.new.entries
         ≡ with_some field (option_map count (those_but_zero number)) (members_view members.old.entries)) }
 {
-    put_some(members, alloc, field, &unless_zero(number))
+    put_some::<AnyWhole>(members, alloc, field, &unless_zero(number))
 }
 
 /// Returns the number, or `None` if it is 0.

@@ -4,12 +4,13 @@
 //! which a part of the tokens may have been written.
 ghost use Rattle.std.specs.Prelude.{◌≡◌, ◌∷◌, [], Some, All, IfOk, OnOk, map, option_map};
 ghost use Rattle.json.specs.Token.{key};
+ghost use Rattle.serde_json.specs.Data.{Data, boolean, string as text_data};
 ghost use Rattle.serde_json.specs.Written.{compact_text};
 ghost use Rattle.unl_documents.specs.Key.{key_of};
 ghost use Rattle.unl_documents.specs.Limits.{Anything};
 ghost use Rattle.unl_documents.specs.Chunks.{joined};
 ghost use Rattle.unl_documents.specs.Tokens.{Wrote, all_tokens, tokens_at, tokens_at_some, tokens_of};
-ghost use Rattle.unl_documents.specs.Writing.{count, unless_zero as those_but_zero};
+ghost use Rattle.unl_documents.specs.Writing.{count, list_data, unless_zero as those_but_zero};
 
 use crate::chunked_list::{Chunk, ChunkedList};
 use crate::field::Field;
@@ -17,15 +18,18 @@ use crate::list::List;
 use crate::memory::Memory;
 use crate::shared::Shared;
 use crate::text::Text;
-use crate::to_value::{ToValue, unless_zero};
+use crate::to_value::unless_zero;
 use json::Writer;
 use std::alloc::Global;
 
 /// The initial capacity of an output buffer, in bytes.
 pub(crate) const ROOM: usize = 128;
 
-/// A type that can be written as JSON text: the text of the JSON value that [`ToValue::write`] returns.
-pub trait WriteJson: ToValue {
+/// A type that can be written as JSON text.
+pub trait WriteJson: Drop {
+    // The JSON value whose text is written.
+    ghost written: { Self → Data };
+
     // The condition for writing `self`: for example, the parameters of a strategy must be sorted by key, because the
     // keys of an object are sorted in its JSON text.
     ghost is_printable: { Self → Type 0 };
@@ -33,10 +37,12 @@ pub trait WriteJson: ToValue {
     /// Writes the JSON text of `self`.
     fn print(&self, out: &mut Writer) -> Result<(), Memory>
         requires { is_printable self.now }
-        ensures { OnOk result (Wrote (tokens_of (Self.written self.now)) out.old out.new) };
+        ensures { OnOk result (Wrote (tokens_of (written self.now)) out.old out.new) };
 }
 
 impl WriteJson for Text {
+    ghost written = { text_data };
+
     ghost is_printable = { Anything };
 
     fn print(&self, out: &mut Writer) -> Result<(), Memory> {
@@ -46,6 +52,8 @@ impl WriteJson for Text {
 }
 
 impl WriteJson for bool {
+    ghost written = { boolean };
+
     ghost is_printable = { Anything };
 
     fn print(&self, out: &mut Writer) -> Result<(), Memory> {
@@ -55,6 +63,8 @@ impl WriteJson for bool {
 }
 
 impl WriteJson for u32 {
+    ghost written = { count };
+
     ghost is_printable = { Anything };
 
     fn print(&self, out: &mut Writer) -> Result<(), Memory> {
@@ -64,6 +74,8 @@ impl WriteJson for u32 {
 }
 
 impl WriteJson for u64 {
+    ghost written = { count };
+
     ghost is_printable = { Anything };
 
     fn print(&self, out: &mut Writer) -> Result<(), Memory> {
@@ -73,6 +85,8 @@ impl WriteJson for u64 {
 }
 
 impl<P: WriteJson> WriteJson for Shared<P> {
+    ghost written = { P.written };
+
     ghost is_printable = { P.is_printable };
 
     fn print(&self, out: &mut Writer) -> Result<(), Memory> {
@@ -81,6 +95,8 @@ impl<P: WriteJson> WriteJson for Shared<P> {
 }
 
 impl<P: WriteJson> WriteJson for List<P> {
+    ghost written = { list_data P.written };
+
     ghost is_printable = { All P.is_printable };
 
     fn print(&self, out: &mut Writer) -> Result<(), Memory> {
@@ -92,6 +108,8 @@ impl<P: WriteJson> WriteJson for List<P> {
 }
 
 impl<P: WriteJson> WriteJson for ChunkedList<P> {
+    ghost written = { list_data P.written };
+
     ghost is_printable = { All P.is_printable };
 
     fn print(&self, out: &mut Writer) -> Result<(), Memory> {

@@ -27,4 +27,4 @@ returns-clause-valid g c = λ all.
     let xs = c.args.items in
     let ys = c.sort.new.items.items in
     let moved : IsPermutation xs ys = rw (← c.into_vec-items.ensures) c.in_ok-sort.ensures.same in
-    rw c.in_ok-share.ensures (All-permutation g.K.Document.is_valid xs ys moved all)
+    rw c.in_ok-share.ensures (All-permutation g.K.Sortable.is_valid xs ys moved all)

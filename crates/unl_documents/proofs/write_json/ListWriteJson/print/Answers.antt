@@ -9,5 +9,5 @@ pub returns : goal.returns
 returns g c =
     let begun = one c.in_ok-begin_array.ensures in
     let ended = one c.in_ok-end_array.ensures in
-    let same = ap (λ xs. tokens_of (list_data g.P.ToValue.written xs)) (sym c.as_slice.ensures) in
-    spelled (same ∙ list_tokens (map g.P.ToValue.written c.as_slice.result.now)) (then begun (then c.in_ok-print_each.ensures ended))
+    let same = ap (λ xs. tokens_of (list_data g.P.WriteJson.written xs)) (sym c.as_slice.ensures) in
+    spelled (same ∙ list_tokens (map g.P.WriteJson.written c.as_slice.result.now)) (then begun (then c.in_ok-print_each.ensures ended))
