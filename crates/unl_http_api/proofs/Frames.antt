@@ -1,4 +1,4 @@
--- A reader agrees with the frame of its bytes: same length, incomplete, or refused with the same status.
+-- A reader's next item agrees with the frame of the bytes: a request of this length, `More` (incomplete), or a refusal with this status.
 use Rattle.std.proofs.Common.{List, ℕ, drop, refl, sym}
 use Rattle.unl_http_api.specs.declared.frame.Frame.{Frame}
 use Rattle.unl_http_api.specs.declared.frame.Frame.TheVariants.{Whole, More, Bad}

@@ -1,4 +1,4 @@
--- Bytes parse as a reply in exactly one way, and after enough bytes, more of them change nothing.
+-- Bytes parse as a reply in exactly one way, and bytes after the first 16,785,409 change nothing.
 use Rattle.std.proofs.Common.{◌≡◌, ℕ, ◌<◌, ◌≤◌, Bool, true, false, cond, List, [], ◌∷◌, ◌++◌, length, take, drop, map, refl, sym, ap, ◌∙◌, subst, arith, length-append, Option, Some, None, Result, Ok, Err, inl, inr, IsTrue}
 use Rattle.std.proofs.lemmas.Bool.{cases_lt}
 use Rattle.std.proofs.lemmas.Bool.Decides.{nat_tests}
@@ -27,13 +27,14 @@ use Rattle.unl_http_api.proofs.RoomLemmas.{window_fits}
 
 -- ---- what a call returns
 
--- if a call returns the reading or runs out of memory, and the reading has a property, then the call's result has this property
+-- if a call returns `reading` or runs out of memory, and `reading` has a property, then the call's result has it or is out of memory
 pub Answers-from_gives : {T E : Type 0} (memory : E) (P : Result T E → Type 0) (result reading : Result T E)
     → Gives memory result reading → P reading → Answers memory P result
 Answers-from_gives memory P (Ok x) reading gives is = subst P gives is
 Answers-from_gives memory P (Err e) reading gives is = λ other. subst P (gives other) is
 
--- if a property holds of only one reading, a call whose result has the property returns that reading or runs out of memory
+-- if at most one result has a property, `reading` has it, and a call returns a result that has it or runs out of memory, then the call
+-- returns `reading` or runs out of memory
 pub Gives-from_answers : {T E : Type 0} (memory : E) (P : Result T E → Type 0) (result reading : Result T E)
     → ((r s : Result T E) → P r → P s → r ≡ s) → Answers memory P result → P reading → Gives memory result reading
 Gives-from_answers memory P (Ok x) reading unique answers is = unique reading (Ok x) is answers
@@ -41,7 +42,7 @@ Gives-from_answers memory P (Err e) reading unique answers is = λ other. unique
 
 -- ---- one head
 
--- a head in the window is a head of the bytes
+-- a head of at most 64 fields in the window (the first 8,192 bytes) is a head of the bytes
 pub reply_head_from_window : (bytes : List ℕ) (head : ResponseHead) (rest : List ℕ) → length (window bytes) ≤ 8192
     → ReadsResponse (window bytes) head rest → length head.fields ≤ 64 → HasReplyHead bytes head (rest ++ drop 8192 bytes)
 reply_head_from_window bytes head rest fits reads few = record {
@@ -94,7 +95,7 @@ one_reply_of bytes reading is = record {
   only = λ other it. IsReply_unique bytes reading other is it;
 }
 
--- a head in the window, from its spans
+-- the bytes begin with a head whose length and status code are those in `r`, and whose fields have the names and values in `fields`
 pub record HasReplyAt (bytes : List ℕ) (r : ResponseSpans) (fields : List (List ℕ × List ℕ)) : Type 0 where
   pub head : ResponseHead
   pub has_head : HasReplyHead bytes head (drop r.len bytes)
@@ -138,7 +139,7 @@ test_passes a b less = grind (arith, nat_tests)
 test_fails : (a b : ℕ) → b ≤ a → nat_lt a b ≡ false
 test_fails a b not_less = grind (arith, nat_tests)
 
--- if more bytes follow the head than a body may have, their number doesn't change the length of the body
+-- if more than 16,777,216 bytes (the limit of a body) follow the head, still more bytes change neither the body's length nor its fault
 size_stays : (stated : Option ℕ) (n m : ℕ) → 16777216 < n → n ≤ m → size_among stated n ≡ size_among stated m
 size_stays None n m many more =
     rw (test_passes 16777216 n many, test_passes 16777216 m (omega (arith, many, more))) refl
@@ -188,7 +189,7 @@ taken_stays status fields rest more (Ok n) is =
     ap (λ body. Ok (got_with status fields body)) (sym (take-append-le n rest more (body_fits status fields (length rest) n is)))
 taken_stays status fields rest more (Err e) is = refl
 
--- what is read after a head is unchanged once enough bytes follow
+-- once more than 16,777,216 bytes follow a head, still more bytes do not change what is read
 reading_stays : (status : ℕ) (fields : List (List ℕ × List ℕ)) (rest more : List ℕ) → 16777216 < length rest
     → reading_with status fields rest ≡ reading_with status fields (rest ++ more)
 reading_stays status fields rest more many =
@@ -196,7 +197,7 @@ reading_stays status fields rest more many =
     ∙ ap (λ size. size >>= λ n. Ok (got_with status fields (take n (rest ++ more))))
     (body_size_stays status fields (length rest) (length (rest ++ more)) many (omega (arith, length-append rest more)))
 
--- once enough bytes have arrived, more of them change nothing
+-- once 16,785,409 bytes have arrived (one more than the largest head and body together), more bytes change nothing
 pub IsReply-append : (bytes more : List ℕ) (reading : Result Got BadReply) → 16785409 ≤ length bytes
     → IsReply bytes reading → IsReply (bytes ++ more) reading
 IsReply-append bytes more reading many (inl x) =
@@ -221,17 +222,17 @@ IsReply-append bytes more reading many (inr x) =
 
 -- ---- the tag
 
--- a value byte never breaks a line
+-- a value byte is neither NUL, LF nor CR
 value_byte_fits : (b : ℕ) → IsTrue (is_value_byte b) → IsTrue (not (b == 0 || b == 10 || b == 13))
 value_byte_fits b is = grind (arith, nat_tests)
 
--- the value of a field fits in a header line
+-- the value of a field fits in a header line, because it has no NUL, LF or CR
 value_fits : (f : Field) → IsField f → IsTrue (fits_line (field_value f))
 value_fits f is =
     list_all-from_AllPass (λ b. not (b == 0 || b == 10 || b == 13)) (field_value f)
     (All-weaker (λ b. IsTrue (is_value_byte b)) _ value_byte_fits (field_value f) (AllPass-trim_ows is_value_byte f.raw is.raw))
 
--- the value of the first field with a name fits in a header line
+-- the value of the first field with this name, if there is one, fits in a header line
 first_fits : (name : List ℕ) (fields : List Field) → All IsField fields
     → IsTrue (fits_if_any (first_value name (map name_and_value fields)))
 first_fits name [] all = refl
@@ -245,7 +246,7 @@ first_fits name (f ∷ fields) all =
     by_name true here later = here
     by_name false here later = later
 
--- the tag is one of the head's field values
+-- the tag of the reply is the value of the head's first `etag` field
 tag_of : (size : Result ℕ BadReply) (status : ℕ) (fields : List (List ℕ × List ℕ)) (rest : List ℕ) (got : Got)
     → Ok got ≡ (size >>= λ n. Ok (got_with status fields (take n rest))) → got.tag ≡ first_value (codes "etag") fields
 tag_of (Ok n) status fields rest got is = let same : got ≡ got_with status fields (take n rest) = cc in ap (λ g. g.tag) same

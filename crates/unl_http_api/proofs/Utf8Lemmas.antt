@@ -1,4 +1,4 @@
--- The result of `str::from_utf8` agrees with `if_utf8`.
+-- The result of `str::from_utf8` agrees with `if_utf8`, which is the bytes if they are UTF-8, and otherwise `None`.
 use Rattle.std.proofs.Common.{◌≡◌, ℕ, ◌<◌, List, length, false, ◌==◌, Some, None, cond, option_map, Result, Ok, Err, MatchResult, sym, ap, ◌∙◌, arith, Bor, eq-eqb}
 use Rattle.std.specs.Result.{result_ok}
 use Rattle.std.specs.Str.{IsUtf8, IsValidUpTo}

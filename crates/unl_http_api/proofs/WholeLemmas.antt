@@ -18,7 +18,7 @@ has_one_of bytes (asked, end, session) = record {
 open_longer : (n : ℕ) (q : Request) (qs : List Request) → q.close ≡ false → IsOpen n qs → IsOpen (suc n) (q ∷ qs)
 open_longer n q qs stays x = record { few = omega (arith, x.few); open_all = (stays, x.open_all) }
 
--- a request that stays open can be prepended
+-- if the limit is raised by one, a request that does not end the connection can be prepended
 ends_longer : (n : ℕ) (q : Request) (qs : List Request) (rest : List ℕ) (e : End) → q.close ≡ false → EndsSo n qs rest e
     → EndsSo (suc n) (q ∷ qs) rest e
 ends_longer n q qs rest Asked stays x = (
@@ -52,7 +52,7 @@ more_left : (n : ℕ) (q : Request) (qs : List Request) → q.close ≡ false �
 unfolding EndsRegularly
 more_left n q qs stays (end, regular, ends) = (end, regular, ends_longer n q qs [] end stays ends)
 
--- a list of one request ends after it, whether or not the request ends the connection
+-- a session of one request has a regular end, whether or not the request ends the connection
 last_left : (n : ℕ) (q : Request) (close : Bool) → q.close ≡ close → EndsRegularly (suc n) (q ∷ [])
 unfolding EndsRegularly
 last_left n q true is = (
@@ -69,7 +69,7 @@ ends_regularly (suc n) (q ∷ []) order few = last_left n q q.close refl
 ends_regularly (suc n) (q ∷ (p ∷ qs)) order few =
     more_left n q (p ∷ qs) order.0 (ends_regularly n (p ∷ qs) order.1 (omega (arith, few)))
 
--- complete requests form a session that ends after the last of them
+-- at most 1,000 complete requests, of which only the last may end the connection, form a session that ends after the last of them
 pub whole_session : (bytes : List ℕ) (asked : List Request) → AreWhole bytes asked → IsRegularSession bytes asked
 unfolding EndsRegularly
 whole_session bytes asked whole =

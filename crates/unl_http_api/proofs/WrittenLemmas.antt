@@ -1,4 +1,4 @@
--- A written request is read back.
+-- A request that the client side of this crate writes is read by the server side.
 use Rattle.std.proofs.Common.{◌≡◌, ◌≢◌, ℕ, ◌<◌, ◌≤◌, true, false, List, [], ◌∷◌, ◌++◌, length, map, reverse, refl, sym, ap, ◌∙◌, arith, append_assoc, append-nil, length-append, Option, Some, None, codes}
 use Rattle.std.proofs.lemmas.Bool.Decides.{nat_tests}
 use Rattle.std.proofs.lemmas.Fmt.{decimal_is_IsNumeral, length-decimal-le}
@@ -245,7 +245,7 @@ length_known Post host (Some token) None digits n known said none = rw said refl
 length_known Post host (Some token) (Some tag) digits n known said none = rw said refl
 length_known Other host token tag digits n known said none = absurd (known refl)
 
--- the parts are those that were written
+-- the request with the method, target, fields and body that were written is `request_read`, which the server is specified to read
 parts_read : (method : Method) (target host : List ℕ) (token tag : Option (List ℕ)) (digits body : List ℕ) → method ≢ Other
     → request_read method target token tag body
     ≡ request_with (method_name method) target 0 (map name_and_value (written_fields method host token tag digits)) body
@@ -260,7 +260,7 @@ parts_read Post target host (Some token) None digits body known = refl
 parts_read Post target host (Some token) (Some tag) digits body known = refl
 parts_read Other target host token tag digits body known = absurd (known refl)
 
--- a written request is read back as the request with its parts
+-- if `CanBeRead` holds of the parts (they keep the rules of the server), the written text is the request `request_read` of these parts
 pub written_is_read : (method : Method) (target host : List ℕ) (token tag : Option (List ℕ)) (body : List ℕ)
     → CanBeRead method target host token tag body
     → IsRequest (request_text method target host token tag body) (request_read method target token tag body)

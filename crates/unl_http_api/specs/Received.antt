@@ -15,7 +15,7 @@ pub record HasReplyHead (bytes : List ℕ) (head : ResponseHead) (rest : List �
   pub short : length (print_response head) ≤ 8192
   pub few : length head.fields ≤ 64
 
--- no reply head within these limits begins the bytes
+-- the bytes don't begin with a reply head within these limits
 abbrev pub HasNoReplyHead : List ℕ → Type 0
 HasNoReplyHead bytes = (head : ResponseHead) (rest : List ℕ) → ¬ (HasReplyHead bytes head rest)
 

@@ -71,8 +71,8 @@ fn frame_by(bytes: &[u8], spans: &mut [HeaderSpan]) -> Option<Frame>
     }
 }
 
-/// The frame of bytes whose window (the first 8,192 bytes) has no complete head and isn't hopeless: `More` while the
-/// window isn't full, otherwise `Bad(431)`.
+/// The frame of bytes whose window (the first 8,192 bytes) has no complete head and isn't hopeless (further bytes can
+/// complete a head, or the window ends inside a target): `More` while the window isn't full, otherwise `Bad(431)`.
 fn not_yet(bytes: &[u8]) -> Frame
     requires none { HasNoRequest (window bytes.now) }
     requires hopeful { IsHopeless (window bytes.now) → ⊥ }

@@ -13,7 +13,7 @@ pub struct Got {
     pub status: u16,
     /// The value of the first `ETag` field, verbatim. `None` if there is no such field.
     pub tag: Option<Bytes>,
-    /// The body: as many bytes as `Content-Length` states, or all bytes after the head without that field. At most
+    /// The body: as many bytes as `Content-Length` states or, without that field, all bytes after the head. At most
     /// 16,777,216 bytes. Empty for a 304.
     pub body: Bytes,
 }
@@ -29,7 +29,7 @@ pub enum BadReply {
     /// Fewer bytes follow the head than `Content-Length` states.
     #[error("the reply ends before its body does")]
     Short,
-    /// `Content-Length` states more than 16,777,216 bytes; or it is absent, and more than these follow the head.
+    /// `Content-Length` states more than 16,777,216 bytes; or it is absent, and more bytes than that follow the head.
     #[error("the reply is too large")]
     TooLarge,
     /// Out of memory.

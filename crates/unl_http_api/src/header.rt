@@ -1,4 +1,4 @@
-//! Writes header lines.
+//! Appends header lines to the text of a request or a reply.
 ghost use Rattle.std.specs.Prelude.{◌≡◌, ◌++◌, OnOk, codes};
 ghost use Rattle.std.specs.Fmt.{decimal};
 ghost use Rattle.unl_http_api.specs.Reply.{header};

@@ -83,8 +83,8 @@ fn reply_with(alloc: Global, status: u16, fields: &Fields, rest: &[u8]) -> Resul
     })
 }
 
-/// Parses the reply at the start of `bytes`, which are all bytes that will be received. The spans of its head are
-/// stored in `spans`.
+/// Parses the reply at the start of `bytes`, which are all bytes that will be received. The positions of its header
+/// fields are stored in `spans`.
 ///
 /// # Errors
 /// `Head`: the first 8,192 bytes contain no complete head, or it has more than 64 fields. Otherwise as for

@@ -20,7 +20,7 @@ pub fn fits_line(text: &[u8]) -> bool
 
 /// The text of an HTTP/1.0 request by GET or POST, with `Connection: close`. The token becomes the `Authorization`
 /// field, the tag the `If-None-Match` field. Only a POST has `Content-Type` and `Content-Length` fields, so the body of
-/// a GET should be empty.
+/// a GET should be empty. The target, the host, the token and the tag must have no CR, LF or NUL.
 ///
 /// # Errors
 /// `Memory`: out of memory.

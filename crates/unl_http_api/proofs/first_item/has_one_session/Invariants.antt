@@ -3,7 +3,7 @@ use Rattle.unl_http_api.specs.declared.request.Request.{Request}
 use Rattle.unl_http_api.specs.Session.{ReadsRequests, StayOpen}
 use Rattle.unl_http_api.proofs.first_item.has_one_session.Given as goal
 
--- these requests were read, and none of them ends the connection
+-- one request was read in each turn so far, and none of these requests ends the connection
 abbrev pub invariant-loop-turn : goal.invariant-loop-turn
 invariant-loop-turn l = record {
   asked : List Request;
