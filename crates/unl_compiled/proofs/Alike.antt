@@ -29,7 +29,7 @@ sides fs = map (λ f. (f.name, f.project)) fs
 
 -- ---- lists that agree in names and projects
 
--- Two lists that agree: their first features, and the rest.
+-- Two lists agree in names and projects: their first features do, and so does the rest.
 record AlikeCons (f g : Feature) (fs gs : List Feature) : Type 0 where
   names : f.name ≡ g.name
   projects : f.project ≡ g.project
@@ -160,7 +160,8 @@ after_alike number (FeatureRemoved n name project ∷ es) s order keeps = later_
 after_alike number (SegmentUpdated n segment ∷ es) s order keeps = later_alike number s (SegmentUpdated n segment ∷ es) order keeps
 after_alike number (SegmentRemoved n id ∷ es) s order keeps = later_alike number s (SegmentRemoved n id ∷ es) order keeps
 
--- The index of the features before the events is also the index of those after them.
+-- If each event leaves each feature at its position and in its project, the index of the features before the events is also the index of
+-- the features after them.
 pub still_index : (number : ℕ) (es : List Event) (s after : State) (index : List ProjectPlaces) → IsInOrder s → list_all (keeps_place s.features) es ≡ true
     → after ≡ state_after number es s → IsIndex s.features index → IsIndex after.features index
 still_index number es s after index order keeps is places project =

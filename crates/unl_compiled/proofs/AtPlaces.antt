@@ -19,7 +19,7 @@ use Rattle.unl_tokens.specs.Names.{sees}
 use Rattle.unl_tokens.specs.declared.projects.Projects.{Projects}
 use Rattle.unl_tokens.specs.declared.projects.Projects.TheVariants.{All as Everything, Only}
 
--- The item after a prefix.
+-- The first item after a prefix is at the index that is the prefix's length.
 item_behind : {T : Type 0} (prefix : List T) (x : T) (xs : List T) → slice_get (prefix ++ x ∷ xs) (length prefix) ≡ Some x
 item_behind [] x xs = refl
 item_behind (y ∷ prefix) x xs = item_behind prefix x xs
@@ -87,7 +87,7 @@ one_project_toggles toggle whole (Only (project ∷ [])) index places is_index f
     filter_same_tests (f ∷ fs) = λ i. cond (sym (is_seen project f.project) i) (f ∷ filter_same_tests fs i) (filter_same_tests fs i)
 one_project_toggles toggle whole (Only (project ∷ other ∷ names)) index places is_index found = absurd cc
 
--- The positions that are found by the index are those of the visible features.
+-- If the index gives positions for the query's projects, the toggles at these positions are the toggles that the query asks for.
 pub places_found : {R : Type 0} (query : ToggleQuery) (index : List ProjectPlaces) (found : Option R) (now : R → List ℕ) → IsIndex query.state.features index
     → option_map now found ≡ option_map (λ project. listed project index) (one_project query.projects)
     → IfSome found (λ places. filter_map (toggle_at query) (now places) ≡ toggles_for query)

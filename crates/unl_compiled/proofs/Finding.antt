@@ -15,7 +15,7 @@ and_true : (b : Bool) → (b && true) ≡ b
 and_true true = refl
 and_true false = refl
 
--- Two ids are the same if their keys are.
+-- Two ids are the same exactly if their keys (the lists of just the id) are the same.
 same_id : (a b : ℕ) → bytes_eq (a ∷ []) (b ∷ []) ≡ (a == b)
 same_id a b = and_true (a == b)
 

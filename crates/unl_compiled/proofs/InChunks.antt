@@ -1,4 +1,4 @@
--- Features in chunks, one chunk at a time.
+-- Lemmas about a list that is split into chunks, for loops that take one chunk at a time.
 use Rattle.std.proofs.Common.{◌≡◌, ◌<◌, ◌≤◌, ◌+◌, ℕ, zero, suc, Bool, true, false, List, [], ◌∷◌, ◌++◌, length, map, take, drop, get_or, Less, Option, Some, None, is_lt, inl, inr, refl, sym, ap, subst, ◌∙◌, append_assoc, arith}
 use Rattle.std.specs.Prelude.{All, IsSome, option_map, slice_get}
 use Rattle.std.specs.List.{AllByRecursion as Every, prefix_len}
@@ -102,7 +102,7 @@ all_taken [] (suc place) none = refl
 all_taken (x ∷ xs) zero none = absurd cc
 all_taken {T} (x ∷ xs) (suc place) none = ap (λ (ys : List T). x ∷ ys) (all_taken xs place none)
 
--- If all chunks end before the key, its position is the length of the list.
+-- If all chunks end before the key, the key's position is the length of the list.
 pub place_at_end : {T : Type 0} (key : T → List ℕ) (k : List ℕ) (chunks : List (List T)) (place : ℕ) → NoneIsEmpty chunks → AreRising (map key (joined chunks))
     → place ≡ prefix_len (ends_before key k) chunks → None ≡ slice_get chunks place → prefix_len (is_below key k) (joined chunks) ≡ length (joined (take place chunks))
 place_at_end {T} key k chunks place full rising is none =

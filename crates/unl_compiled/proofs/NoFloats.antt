@@ -1,4 +1,4 @@
--- No toggle has a number with a decimal point.
+-- No toggle has a floating-point number.
 use Rattle.std.proofs.Common.{◌≡◌, ◌||◌, ℕ, Bool, true, false, cond, List, [], ◌∷◌, Option, Some, None, refl}
 use Rattle.std.specs.Prelude.{IfSome, filter_map}
 use Rattle.std.specs.List.{cons_option}

@@ -26,7 +26,8 @@ apart_from a b p apart same =
       | inr other ↦ other
     ]
 
--- If the lemma holds for a list of entries, it also holds with an entry for another project in front.
+-- If `new` lists for `p` what `es` lists and then `more`, the same holds if both lists begin with one more entry, for a project other than
+-- `project`.
 next_place : (e : ProjectPlaces) (project p : List ℕ) (place : ℕ) (es new : List ProjectPlaces) → bytes_eq e.project project ≡ false → listed p new ≡ listed p es ++ more project p place → listed p (e ∷ new) ≡ listed p (e ∷ es) ++ more project p place
 next_place e project p place es new apart is =
     elim (cases_Bool (bytes_eq e.project p)) [
@@ -72,7 +73,7 @@ old_project project p place (e ∷ es) d (suc slot) is lt =
           next_place e project p place es (slice_set es slot (record { project = (get_or es slot d).project; places = (get_or es slot d).places ++ place ∷ [] })) apart (old_project project p place es d slot (omega arith) (omega arith))
     ]
 
--- Adding a position to the entry of its project adds it to the positions of that project, and of no other.
+-- Adding a position to a project's entry adds the position to those of that project, and of no other.
 pub entry_more : (project p : List ℕ) (place : ℕ) (es : List ProjectPlaces) (entry : ProjectPlaces) (slot : ℕ) → slot ≡ prefix_len (differs project) es → slot < length es → get_or es slot entry ≡ entry
     → listed p (slice_set es slot (record { project = entry.project; places = entry.places ++ place ∷ [] })) ≡ listed p es ++ more project p place
 entry_more project p place es entry slot is lt same =

@@ -82,7 +82,7 @@ moved_and c [] (first ∷ news) e new all is = absurd all
 moved_and c (first ∷ es) [] e new all is = absurd all
 moved_and c (first ∷ es) (second ∷ news) e new all is = (all.0, moved_and c es news e new all.1 is)
 
--- If the first entries of an index are moved, and the next one is, then the entries up to that one are moved.
+-- If the first `i` entries of an index are moved, and the next entry is too, then the first `i + 1` entries are moved.
 pub moved_more : (c : Change) (index news : List ProjectPlaces) (i : ℕ) (e new : ProjectPlaces) → i < length index → e ≡ get_or index i e → AllMoved c (take i index) news → IsMoved c e new → AllMoved c (take (i + 1) index) (news ++ new ∷ [])
 moved_more c index news i e new lt at all is =
     let taken : take (i + 1) index ≡ take i index ++ e ∷ [] = take_more index i e lt ∙ ap (λ (other : ProjectPlaces). take i index ++ other ∷ []) (sym at) in

@@ -52,7 +52,8 @@ moved c project places =
     ++ map (shifted (count_of c.removed) (count_of c.inserted))
     (drop (count_if (is_of project c.removed)) (drop (count_below c.place places) places)))
 
--- The entry `new` has the project of `e` and, if `IsParted` holds for the positions of `e`, these positions after the change.
+-- The entry `new` has the project of `e`. If `IsParted` holds for the positions of `e`, the positions of
+-- `new` are those of `e` after the change.
 pub record IsMoved (c : Change) (e new : ProjectPlaces) : Type 0 where
   pub project : new.project ≡ e.project
   pub places : IsParted c.place e.places → new.places ≡ moved c e.project e.places

@@ -77,7 +77,7 @@ toggle_if_seen query f = if sees query.projects f.project then toggle_for query 
 abbrev pub toggle_at : ToggleQuery → ℕ → Option Data
 toggle_at query place = option_and_then (toggle_for query) (slice_get query.state.features place)
 
--- The toggles of the visible features, as far as the query asks for them, in the order of the features.
+-- Those toggles of the visible features that the query asks for, in the order of the features.
 abbrev pub toggles_for : ToggleQuery → List Data
 toggles_for query = filter_map (toggle_for query) (visible query).features
 

@@ -50,8 +50,7 @@ pub(crate) fn collect<S: ToggleSink>(
     }
 }
 
-/// Appends the toggles of the features at these positions, as far as the query asks for them. The features
-/// need not be visible.
+/// Appends those toggles of the features at these positions that the query asks for. The features need not be visible.
 fn collect_at<S: ToggleSink>(
     sink: &mut S,
     alloc: Global,
@@ -82,7 +81,7 @@ fn collect_place<S: ToggleSink>(
     }
 }
 
-/// Appends the toggles of the visible features in these chunks, as far as the query asks for them.
+/// Appends those toggles of the visible features in these chunks that the query asks for.
 fn collect_seen<S: ToggleSink>(
     sink: &mut S,
     alloc: Global,
@@ -98,7 +97,7 @@ fn collect_seen<S: ToggleSink>(
     Ok(())
 }
 
-/// Appends the toggles of the visible features in a chunk, as far as the query asks for them.
+/// Appends those toggles of the visible features in a chunk that the query asks for.
 fn collect_chunk<S: ToggleSink>(
     sink: &mut S,
     alloc: Global,

@@ -1,4 +1,4 @@
-//! Features with compiled constraints.
+//! Features with compiled constraints: the constraints' values are sorted or parsed once, for many evaluations.
 ghost use Rattle.std.specs.Prelude.{◌≡◌, ◌<◌, ◌&&◌, Some, IfOk, length, map, option_map, slice_get};
 ghost use Rattle.std.specs.List.{list_all};
 ghost use Rattle.unl_constraints.specs.Constraint.{all_hold};
@@ -61,8 +61,8 @@ impl CompiledFeature {
         &self.constraints.as_slice()[place]
     }
 
-    /// Whether the feature has a strategy at the index `place`, counted from 0, and that strategy is active. The
-    /// segments are in ascending order of their ids.
+    /// Whether the feature has a strategy at the index `place`, counted from 0, and that strategy is active for the
+    /// context at the moment. The segments are in ascending order of their ids.
     #[tactic(auto, unfolding(unl_strategies::specs::Strategy::is_active))]
     pub(crate) fn is_active(
         &self,

@@ -18,9 +18,10 @@ use std::alloc::Global;
 use unl_delta::Event;
 use unl_documents::{Feature, List, Memory, Shared, Text};
 
-/// The project index after a batch's events. `before` and `projects` are the parts and the index of the version with
-/// the number `number`; `after` are the parts after the events. The index is shared if each event leaves each feature
-/// at its position and in its project. Otherwise it is adjusted for a single event on a feature, or rebuilt.
+/// The project index after a batch's events. `before` and `projects` are the parts (the compiled features and segments)
+/// and the index of the version with the number `number`; `after` are the parts after the events. The index is shared
+/// if each event leaves each feature at its position and in its project. Otherwise it is adjusted if there is only one
+/// event, which is on a feature and has a number above `number`. In all other cases it is rebuilt.
 pub(crate) fn places_after(
     alloc: Global,
     number: u64,
@@ -53,8 +54,8 @@ pub(crate) fn all_places(
     Shared::new(alloc, index_of(alloc, parts.chunks())?)
 }
 
-/// As `places_after`, for one event. An event on a feature with a number above `number` inserts, replaces or removes
-/// that feature, and shifts later positions by at most one: the index is adjusted. After any other event it is rebuilt.
+/// As `places_after`, for one event. If the event is on a feature and its number is above `number`, it changes at most
+/// that feature and shifts later positions by at most one, so the index is adjusted. Otherwise the index is rebuilt.
 fn places_after_one(
     alloc: Global,
     number: u64,

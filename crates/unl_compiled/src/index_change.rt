@@ -36,7 +36,7 @@ impl<'a> Model for Change<'a> {
     } };
 }
 
-/// The project index after a change. It is right for each project whose positions in `index` ascend.
+/// The project index after a change. The result is right for each project whose positions in `index` ascend.
 pub(crate) fn changed(
     alloc: Global,
     index: &[ProjectPlaces],
@@ -110,7 +110,7 @@ fn push_project(
     add_project(new, alloc, project, place)
 }
 
-/// The positions of a project's features after a change. `places` are those until then, in ascending order.
+/// The positions of a project's features after a change. `places` are the positions before it, in ascending order.
 fn changed_places(
     alloc: Global,
     places: &[usize],
@@ -169,8 +169,8 @@ fn push_if(list: &mut Vec<usize>, so: bool, place: usize) -> Result<(), Memory>
     Ok(())
 }
 
-/// Shifts each of these positions: `less` features before it are removed, and then `more` features are inserted before
-/// it.
+/// Shifts each of these positions: `less` features before the position are removed, and then `more` features are
+/// inserted before it.
 fn all_shifted(
     alloc: Global,
     places: &[usize],

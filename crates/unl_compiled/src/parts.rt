@@ -77,7 +77,7 @@ impl Parts {
         feature_at(&self.features, feature).constraints(strategy)
     }
 
-    /// The parts after a batch's events. These parts are those of the version with the number `number`. If the first
+    /// The parts after a batch's events. `self` has the parts of the version with the number `number`. If the first
     /// event is a hydration (a whole new state), its state replaces these parts, and all later events apply. Otherwise
     /// only events whose number is greater than `number` apply. Without a hydration, features and segments that no
     /// event names are shared with these parts.

@@ -175,7 +175,7 @@ fn first(chunks: &[Chunk<CompiledFeature>], place: usize) -> &[Chunk<CompiledFea
 }
 
 /// Finds a feature by its name in chunks whose features are in ascending order of their names. The feature can only be
-/// in the first chunk that doesn't end before the name.
+/// in the first chunk whose last feature's name is not less than the name.
 fn feature_among<'a>(
     chunks: &'a [Chunk<CompiledFeature>],
     name: &str,
@@ -200,8 +200,8 @@ fn chunk_at(
     Some(chunks.get(place)?.get())
 }
 
-/// The index of the first chunk that doesn't end before the name, the only one that can have a feature with the name,
-/// by binary search. The number of chunks if all end before the name.
+/// The index of the first chunk whose last feature's name is not less than the name, or the number of chunks if there
+/// is none, by binary search. No other chunk can have a feature with the name.
 fn chunk_of(chunks: &[Chunk<CompiledFeature>], name: &str) -> usize
     requires rising { AreRising (map name_key (joined chunks.now)) }
     requires full { NoneIsEmpty chunks.now }

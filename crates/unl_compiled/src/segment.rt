@@ -1,4 +1,4 @@
-//! Segments with compiled constraints.
+//! Segments with compiled constraints: the constraints' values are sorted or parsed once, for many evaluations.
 ghost use Rattle.std.specs.Prelude.{◌≡◌, IfOk, map, option_map};
 ghost use Rattle.std.specs.List.{list_all};
 ghost use Rattle.unl_constraints.specs.Constraint.{all_hold};

@@ -53,7 +53,7 @@ impl Model for Snapshot {
 }
 
 impl Snapshot {
-    /// Builds the snapshot of a version. Compiles all features and segments.
+    /// Builds the snapshot of a valid version. Compiles all features and segments.
     ///
     /// # Errors
     /// `Memory`: out of memory.
@@ -68,7 +68,7 @@ impl Snapshot {
 
     /// The snapshot of the next version: the version of this snapshot after `batch`. `place` has the current version of
     /// the environment, which must be the version of this snapshot, and whether only a hydration (a whole new state)
-    /// can apply. The batch must apply to the place (`Verdict::Apply`).
+    /// can apply. The batch must be valid and apply to the place (`Verdict::Apply`).
     ///
     /// Compiled features and segments that no event of the batch names are shared with this snapshot. If the batch has
     /// a hydration, nothing is shared.
@@ -89,7 +89,7 @@ impl Snapshot {
         Snapshot::of_parts(alloc, version, next, projects)
     }
 
-    /// The version. Doesn't allocate.
+    /// The version that this is the snapshot of. Doesn't allocate.
     pub fn version(&self) -> &EnvVersion
         ensures version { result.now ≡ self.now }
         ensures valid { IsValidVersion result.now }
@@ -97,7 +97,7 @@ impl Snapshot {
         self.version.get()
     }
 
-    /// Returns another handle of the version. The version itself is shared, not copied.
+    /// Returns another handle to the version. The version itself is shared, not copied.
     ///
     /// # Errors
     /// `Memory`: out of memory.
@@ -107,8 +107,8 @@ impl Snapshot {
         self.version.copy()
     }
 
-    /// Finds a feature by its name. `None` if there is none, or the feature's project is not in `projects`. Doesn't
-    /// allocate.
+    /// Finds a feature by its name. Returns `None` if no feature has the name, or the feature's project is not in
+    /// `projects`. Doesn't allocate.
     pub fn feature(&self, name: &str, projects: &Projects) -> Option<&Feature>
         ensures found { option_map (λ f. f.now) result
             ≡ feature_named name.now (view_of (sees projects.now) self.now.state).features }
@@ -117,8 +117,8 @@ impl Snapshot {
         document_of(seen_named(&self.parts, projects, name))
     }
 
-    /// Evaluates the feature with this name. Only features whose project is in `projects` are visible: a parent
-    /// that isn't visible counts as absent. Returns `Ok(None)` exactly if no visible feature has the name.
+    /// Evaluates the feature with this name. Only features whose project is in `projects` are visible: a parent that
+    /// isn't visible counts as absent. On success, the result is `None` if and only if no visible feature has the name.
     ///
     /// # Errors
     /// `Memory`: out of memory.

@@ -8,8 +8,9 @@ use crate::query::ToggleQuery;
 use serde_json::{Map, Value};
 use std::alloc::Global;
 use unl_dependencies::{Evaluation, VariantAnswer};
+use unl_documents::kind::{AnyText, Boolean};
 use unl_documents::to_value::{put, put_some, put_value};
-use unl_documents::{Feature, Field, Memory};
+use unl_documents::{Feature, Field, Memory, PayloadJson};
 
 /// The body for a query. Fails only if out of memory.
 #[tactic(auto, unfolding(crate::specs::Toggles::toggles_data))]
@@ -57,14 +58,14 @@ fn write_toggle(alloc: Global, feature: &Feature, evaluation: &Evaluation) -> Re
     let mut members = Map::new(alloc);
     let variant = write_variant(alloc, evaluation.on, &evaluation.variant)?;
     put_value(&mut members, alloc, Field::Variant, variant)?;
-    put(&mut members, alloc, Field::Name, &feature.name)?;
-    put(
+    put::<AnyText>(&mut members, alloc, Field::Name, &feature.name)?;
+    put::<Boolean>(
         &mut members,
         alloc,
         Field::ImpressionData,
         &feature.impression,
     )?;
-    put(&mut members, alloc, Field::Enabled, &evaluation.on)?;
+    put::<Boolean>(&mut members, alloc, Field::Enabled, &evaluation.on)?;
     Ok(Value::Object(members))
 }
 
@@ -73,9 +74,9 @@ fn write_variant(alloc: Global, on: bool, variant: &VariantAnswer) -> Result<Val
     ensures { IfOk result (λ v. view v ≡ variant_data on variant.now) }
 {
     let mut members = Map::new(alloc);
-    put(&mut members, alloc, Field::Name, &variant.name)?;
-    put(&mut members, alloc, Field::FeatureEnabled, &on)?;
-    put(&mut members, alloc, Field::Enabled, &variant.enabled)?;
-    put_some(&mut members, alloc, Field::Payload, &variant.payload)?;
+    put::<AnyText>(&mut members, alloc, Field::Name, &variant.name)?;
+    put::<Boolean>(&mut members, alloc, Field::FeatureEnabled, &on)?;
+    put::<Boolean>(&mut members, alloc, Field::Enabled, &variant.enabled)?;
+    put_some::<PayloadJson>(&mut members, alloc, Field::Payload, &variant.payload)?;
     Ok(Value::Object(members))
 }
