@@ -7,8 +7,8 @@ use Rattle.unl_documents.specs.declared.state.State.{State}
 use Rattle.unl_load.specs.Input.{ask_by, asks, is_on_for}
 use Rattle.unl_load.specs.Words.{next_word, next}
 
--- after `asked` of `count` asks: `on`, the number of those that were on, plus the number of the remaining asks that are on, is the number
--- of all asks that are on
+-- after `asked` of `count` asks: `on` is the number of those that were on, at most `asked`; plus the number of the remaining asks that are
+-- on, it is the number of all asks that are on
 pub record Counts (state : State) (words : Lcg) (count asked on : ℕ) (left : Lcg) : Type 0 where
   pub all : on + count_by (is_on_for state) (asks (count - asked) left) ≡ count_by (is_on_for state) (asks count words)
   pub most : on ≤ asked

@@ -116,7 +116,7 @@ none_rise : AreRising []
 unfolding IsStrictlySortedBy
 none_rise = tt
 
--- a state of 1,000 features is valid
+-- the state of 1,000 features that is generated from random words is valid
 pub state_valid : (words : Lcg) → IsValidState (state_by words)
 state_valid words = record {
   features = all_fit 1000 0 words;
@@ -167,7 +167,7 @@ behind_none : (words : Lcg) → behind 0 words ≡ words
 unfolding behind
 behind_none words = refl
 
--- after all features were generated, they are the features of the state
+-- after all 1,000 features were generated, they are the features of the state, and 1,000 words were taken
 pub all_made : (words : Lcg) (place : ℕ) (made : List Feature) (left : Lcg) → place ≡ 1000 → Makes words place made left
     → (made ≡ features_from 0 1000 words) × (left ≡ behind 1000 words)
 all_made words place made left end makes =

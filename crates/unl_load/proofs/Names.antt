@@ -47,7 +47,7 @@ rises_by (suc more) place less =
     (rises_by more place (omega (arith, less)))
     (rises 999 (place + more + 1) all_rise (omega (arith, less))))
 
--- a name is less than those of greater indexes
+-- a name is less than the names of greater indexes, up to 999
 pub name_rises : (place other : ℕ) → place < other → other < 1000 → order place other ≡ Less
 name_rises place other less inside =
     let same : place + (other - (place + 1)) + 1 ≡ other = omega (arith, less) in

@@ -48,7 +48,7 @@ all_pass (x ∷ xs) = ap (λ ys. x ∷ ys) (all_pass xs)
 pub all_seen : (state : State) → view_of (sees projects.All) state ≡ state
 all_seen state = ap (λ features. record { features = features; segments = state.segments }) (all_pass state.features)
 
--- the result of an ask
+-- whether the evaluation that was found is on (false if none was found) is the result that is specified for the ask
 pub found_is : (state : State) (feature user : ℕ) (name text : List ℕ) (context : Fields) (found : Option Evaluation) (on : Bool)
     → name ≡ name_of feature → text ≡ name → context ≡ user_context user
     → found ≡ evaluation_of (view_of (sees projects.All) state) text context beginning

@@ -120,8 +120,8 @@ fn name_of(alloc: Global, place: u32) -> Result<String, AllocError>
     format!(in alloc; "f{thousands}{hundreds}{tens}{ones}")
 }
 
-/// Applies this state as a hydration (a whole state) with number 1 to a place that has no version and isn't held, and
-/// returns the snapshot of the new version.
+/// Applies this state, as a hydration with number 1, to a place that has no version yet, and returns the snapshot of
+/// the new version.
 pub(crate) fn installed(alloc: Global, state: State) -> Result<Snapshot, Memory>
     requires { IsValidState state }
     ensures { IfOk result (λ snapshot. snapshot.state ≡ state) }

@@ -10,10 +10,10 @@ use unl_documents as documents;
 /// Why the command `load` ended before its line of counts was written in full.
 #[derive(Clone, Copy, Debug, PartialEq, Eq, Error)]
 pub enum LoadFault {
-    /// The sink failed and incremented its fault count.
+    /// The sink failed. A prefix of the line was written.
     #[error("the output failed")]
     WriteFault,
-    /// Memory ran out.
+    /// Memory ran out. Nothing was written.
     #[error("out of memory")]
     Memory,
 }
