@@ -95,12 +95,12 @@ places_match_more board grown places environment slot matched room none made pus
   valid = All-append IsValidPlace places (empty_place ∷ []) matched.valid (All-cons IsValidPlace empty_place [] tt (All-nil IsValidPlace));
 }
 
--- `place_of` of a desk is the place at that index.
+-- `place_of` of a desk and the index of a slot is the place at this index.
 place_is : (board : Board) (places : List Place) (front slot : ℕ) (p : Place) → slot < length places → p ≡ get_or places slot p
     → place_of (installed_by (record { board = board; places = places; front = front })) slot ≡ p
 place_is board places front slot p low is = ap (λ o. unwrap_or o empty_place) (slice_get-get_or places slot p low) ∙ sym is
 
--- If the code holds a slot, the desk is then as `with_hold` defines it.
+-- If the code marks a slot as held, the desk is then as `with_hold` defines it.
 pub hold_is : (board : Board) (places : List Place) (front slot : ℕ) (p : Place) (s : DeskState) → record { board = board; places = places; front = front } ≡ s → slot < length places
     → p ≡ get_or places slot p → record { board = board; places = set places slot (record { version = p.version; held = true }); front = front } ≡ with_hold slot s
 hold_is board places front slot p s same low is =

@@ -1,4 +1,5 @@
--- Whether the client of a request knows segments, by the version of the client specification that the request names.
+-- Whether the client of a request knows segments (lists of constraints that several strategies can refer to), by the version of the client
+-- specification that the request names.
 use Rattle.std.specs.Prelude.{ℕ, List, [], Bool, false, Option, Some, None, option_and_then}
 use Rattle.std.specs.Ordering.{is_lt}
 use Rattle.semver.specs.Parse.{Parts}
@@ -6,7 +7,7 @@ use Rattle.unl_constraints.specs.Version.{version_of, precedence}
 use Rattle.unl_http_api.specs.declared.request.Request.{Request}
 use Rattle.unl_http_api.specs.Route.{if_utf8}
 
--- The first version of the client specification whose clients know segments.
+-- The first version of the Unleash client specification whose clients know segments: 4.2.0.
 abbrev pub first_with_segments : Parts
 first_with_segments = (4, 2, 0, [], [])
 

@@ -1,6 +1,6 @@
--- The state of a single-threaded desk: a board, the place of each slot, and the number of publications. A place has the slot's version, if
--- any, and whether the slot is held: a held slot missed a batch of events, and takes only a batch that begins with a hydration (an event
--- that contains the whole state).
+-- The state of a single-threaded desk, which answers requests and installs changes: a board (the known tokens, and a slot for each
+-- environment), the place of each slot, and the number of publications. A place has the slot's version, if any, and whether the slot is
+-- held: a held slot missed a batch of events, and takes only a batch that begins with a hydration (an event that contains the whole state).
 use Rattle.std.specs.Prelude.{◌≡◌, ℕ, ◌+◌, List, [], ◌∷◌, ◌++◌, length, map, All, Bool, ◌&&◌, ◌||◌, not, nat_lt, if◌then◌else◌, is_some}
 use Rattle.std.specs.Prelude.{slice_get, slice_set, Option, option_and_then, Some, true, false}
 use Rattle.unl_tokens.specs.declared.token.Token.{Token}
@@ -26,11 +26,11 @@ pub record PlacesMatch (board : Board) (places : List Place) : Type 0 where
   pub versions : map (λ place. place.version) places ≡ map (λ slot. slot.snapshot) board.slots
   pub valid : All IsValidPlace places
 
--- The place with a slot's version, if any. It is not held.
+-- The place of a slot that is not held, with the slot's version, if any.
 abbrev pub place_at : Slot → Place
 place_at slot = record { version = slot.snapshot; held = false }
 
--- The version at a slot, if there is one.
+-- The version of the slot at an index. `None` if there is no such slot, or if the slot has no version.
 abbrev pub snapshot_at : List Slot → ℕ → Option EnvVersion
 snapshot_at slots slot = option_and_then (λ s. s.snapshot) (slice_get slots slot)
 

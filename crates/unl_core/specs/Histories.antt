@@ -36,7 +36,8 @@ AllRepresented histories slots = AllByRecursion (λ slot. RepresentedAt historie
 abbrev pub both_see : Histories → Ready → Sees
 both_see histories ready = both (histories.sees ready.token.environment) (sees ready.token.projects)
 
--- The state that the request's token sees is one revision of its environment's line, with only the projects of `both_see`.
+-- The state that the request's token sees is the revision of its environment's line at the version's epoch and number, with only the
+-- projects of `both_see`.
 abbrev pub ShowsRevision : Histories → Ready → Type 0
 ShowsRevision histories ready =
     option_map (view_of (both_see histories ready)) (revision_in (histories.line ready.token.environment) (revision_of ready.version))

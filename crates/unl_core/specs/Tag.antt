@@ -1,7 +1,7 @@
 -- The tag of a reply (its `ETag`): `"<boot>-<generation>-<place>-<epoch>.<number>i"` with its double quotes. This format is chosen by this
 -- project. `boot` (in 16 hexadecimal digits) and `generation` are fields of the board, the state that requests are answered over. `place`
 -- is the position of the request's token in the board's list of tokens (its book). `epoch` and `number` are the revision of the content.
--- The epoch and the point are absent if the epoch is 0. The `i` is only in the tag of a feed whose segments are inlined.
+-- The epoch and the dot after it are absent if the epoch is 0. The `i` is only in the tag of a feed whose segments are inlined.
 use Rattle.std.specs.Prelude.{ℕ, ◌-◌, ◌+◌, ◌^◌, ◌==◌, List, [], ◌++◌, codes, decimal, length, take, drop, false, Option, Some, None}
 use Rattle.std.specs.Prelude.{option_and_then, if◌then◌else◌}
 use Rattle.std.specs.Fmt.{digits, format_spec, padded_integral}
@@ -15,7 +15,7 @@ use Rattle.unl_core.specs.declared.board.Board.{Board}
 abbrev pub hex_16 : ℕ → List ℕ
 hex_16 n = padded_integral (format_spec 32 0 4 16 (2 ^ 64 - 1)) false [] (digits 16 false n)
 
--- The epoch, a point and the rest, or only the rest if the epoch is 0.
+-- The epoch, a dot and the rest, or only the rest if the epoch is 0.
 abbrev pub with_epoch : ℕ → List ℕ → List ℕ
 with_epoch epoch rest = if epoch == 0 then rest else decimal epoch ++ (codes "." ++ rest)
 
@@ -29,7 +29,7 @@ tag_prefix board place epoch =
 abbrev pub marked_tag : List ℕ → Board → ℕ → Revision → List ℕ
 marked_tag mark board place at = tag_prefix board place at.epoch ++ (decimal at.number ++ (mark ++ codes "\""))
 
--- The tag for the token at `place`, at a revision.
+-- The tag of any content other than a feed whose segments are inlined, for the token at `place`, at a revision.
 abbrev pub tag_text : Board → ℕ → Revision → List ℕ
 tag_text = marked_tag []
 
@@ -49,11 +49,11 @@ whole_in bytes = option_and_then as_u64 (option_and_then as_number (json_of byte
 abbrev pub if_spelled : Board → ℕ → ℕ → List ℕ → ℕ → Option ℕ
 if_spelled board place epoch tag n = if bytes_eq tag (tag_text board place (record { epoch = epoch; number = n })) then Some n else None
 
--- The number of a tag. `None` if the tag isn't exactly the tag of some number for this token and epoch.
+-- The number of a tag. `None` if the tag isn't exactly the tag of any number for this token and epoch.
 unfoldable pub number_of_tag : Board → ℕ → ℕ → List ℕ → Option ℕ
 number_of_tag board place epoch tag =
     option_and_then (if_spelled board place epoch tag) (whole_in (number_part (length (tag_prefix board place epoch)) tag))
 
--- The number in the tag of a request. `None` if there is no tag, or if the tag isn't exactly that of some number for this token and epoch.
+-- The number in the tag of a request. `None` if there is no tag, or if the tag isn't exactly that of any number for this token and epoch.
 abbrev pub since_of : Board → ℕ → ℕ → Option (List ℕ) → Option ℕ
 since_of board place epoch tag = option_and_then (number_of_tag board place epoch) tag

@@ -1,4 +1,4 @@
-//! Computes the answer to a request over a board.
+//! Computes the answer to a request from a board: the known tokens, and the current version of each environment.
 ghost use Rattle.std.specs.Prelude.{◌≡◌, ◌≢◌, ◌∷◌, [], codes, IfOk, IfSome, Err, Ok, Some};
 ghost use Rattle.unl_core.specs.Answer.{answer_of, asked_context, at_route, delta_reply, document_reply, feature_reply, feed_for};
 ghost use Rattle.unl_core.specs.Answer.{feed_reply, feed_state, feed_tag, feed_with, has_tag, listed, news_since, one_text, plain};
@@ -121,7 +121,8 @@ fn report(alloc: Global, board: &Board, request: &Request, kind: Kind) -> Result
     }
 }
 
-/// Answers a bulk report (counts that an edge has summed up), or refuses a token that isn't a client token.
+/// Answers a bulk report (counts that an edge has summed up), or refuses the request's token, which must be a client
+/// token.
 fn bulk_report(alloc: Global, board: &Board, request: &Request) -> Result<Answer, Memory>
     ensures answer { IfOk result (λ a. a ≡ reported (shown_by board.now request.now Kind.Client) (bulk_report_of request.now.body)) }
     ensures report { IfOk result (λ a. IfSome a.report IsReport) }
@@ -191,7 +192,7 @@ fn register(alloc: Global, board: &Board, request: &Request, kind: Kind) -> Resu
     }
 }
 
-/// The reply with the toggles that the request's token sees, or its refusal. `all`: with those that are off, too.
+/// The reply with the toggles that the request's token sees, or the token's refusal. If `all`, also those that are off.
 fn toggles(
     alloc: Global,
     board: &Board,
@@ -207,7 +208,7 @@ fn toggles(
     }
 }
 
-/// As `toggles`, for an accepted token. 400 `BadContext` if the context in the request can't be read.
+/// Like `toggles`, for an accepted token. 400 `BadContext` if the context in the request can't be read.
 fn toggles_for(
     alloc: Global,
     board: &Board,
@@ -287,7 +288,7 @@ fn feature(
     }
 }
 
-/// As `feature`, for an accepted token.
+/// Like `feature`, for an accepted token.
 fn feature_of(alloc: Global, ready: &Ready, name: &str) -> Result<Reply, Memory>
     ensures { IfOk result (λ r. r ≡ document_reply (feature_named name.now (seen ready.now).features)) }
 {
@@ -315,7 +316,7 @@ fn feed(alloc: Global, board: &Board, request: &Request) -> Result<Reply, Memory
     }
 }
 
-/// As `feed`, for an accepted token. 503 `TooManyConstraints` if a strategy would have more than 100 constraints.
+/// Like `feed`, for an accepted token. 503 `TooManyConstraints` if inlining gives a strategy more than 100 constraints.
 fn feed_for(
     alloc: Global,
     board: &Board,
@@ -352,7 +353,7 @@ fn feed_tag(alloc: Global, board: &Board, inlined: bool, ready: &Ready) -> Resul
 /// The content of a feed: the state that the token sees, with its segments inlined if `inlined`.
 ///
 /// # Errors
-/// - `TooMany`: a strategy would have more than 100 constraints.
+/// - `TooMany`: inlining would give a strategy more than 100 constraints.
 /// - `Memory`: out of memory.
 fn feed_state(alloc: Global, inlined: bool, ready: &Ready) -> Result<State, InlineRefusal>
     ensures state { Gives InlineRefusal.Memory result (feed_state inlined (seen ready.now)) }
@@ -398,7 +399,7 @@ fn changes(alloc: Global, board: &Board, request: &Request) -> Result<Reply, Mem
     }
 }
 
-/// As `changes`, for an accepted token.
+/// Like `changes`, for an accepted token.
 fn changes_for(
     alloc: Global,
     board: &Board,
@@ -412,7 +413,7 @@ fn changes_for(
 }
 
 /// The reply with the changes after the number `since`, as the token sees them, or with a hydration (the whole state)
-/// if `since` is `None`, above the version's number, or below its changes that are kept. 304 if nothing is new.
+/// if `since` is `None`, above the version's number, or so old that changes after it are gone. 304 if nothing is new.
 fn news_since(
     alloc: Global,
     board: &Board,

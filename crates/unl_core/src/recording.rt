@@ -11,8 +11,8 @@ use unl_documents::{Memory, Text};
 use unl_http_api::Reply;
 use unl_metrics::{AddRefusal, MetricsBook, Report};
 
-/// Adds the answer's report, if it has one, to the book. Returns the answer's reply. If the book has no room for the
-/// report, returns the refusal 503 `MetricsFull` instead, and the book is unchanged.
+/// Adds the answer's report, if it has one, to the book. The report must be valid. Returns the answer's reply. If the
+/// book has no room for the report, returns the refusal 503 `MetricsFull` instead, and the book is unchanged.
 ///
 /// # Errors
 /// `Memory`: out of memory. The book is unchanged.

@@ -39,7 +39,7 @@ impl<'b> Model for Shown<'b> {
     ghost view = { λ s. record { place = s.place; token = s.token.now } };
 }
 
-/// The token of a request, found in the token book, and the snapshot of its environment.
+/// The token of a request, found in the token book, and the snapshot of the token's environment.
 #[derive(Drop)]
 pub(crate) struct Ready<'b> {
     /// The position of the token in the book, from 0.
@@ -115,7 +115,7 @@ pub(crate) fn shown_by<'b>(
     Ok(shown)
 }
 
-/// The token with the snapshot of its environment, or `NotReady` if the environment has no slot or no snapshot yet.
+/// The token and the snapshot of its environment, or `NotReady` if the environment has no slot or no snapshot yet.
 fn with_its_version<'b>(board: &'b Board, shown: &Shown<'b>) -> Result<Ready<'b>, TokenRefusal>
     ensures { result ≡ with_its_version shown.now (snapshot_in shown.now.token.environment board.now.slots) }
 {
@@ -129,8 +129,8 @@ fn with_its_version<'b>(board: &'b Board, shown: &Shown<'b>) -> Result<Ready<'b>
     }
 }
 
-/// The token of a request, with the snapshot of its environment. The refusals are those of `shown_by`, then that of
-/// `with_its_version`.
+/// The token of a request, with the snapshot of the token's environment. The refusals are those of `shown_by`, then
+/// `NotReady` if the environment has no slot or no snapshot yet.
 pub(crate) fn ready_by<'b>(
     board: &'b Board,
     request: &Request,

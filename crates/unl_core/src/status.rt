@@ -24,7 +24,7 @@ pub const NOT_FOUND: u16 = 404;
 /// The route doesn't accept the method of the request.
 pub const METHOD_NOT_ALLOWED: u16 = 405;
 
-/// The command would exceed a limit, or the keeper is full.
+/// The command would exceed a limit, or the keeper (the store of accepted commands) is full.
 pub const CONFLICT: u16 = 409;
 
 /// The request can't be answered for now.

@@ -1,4 +1,5 @@
-//! Writes the entity tags (`ETag`) of replies, and reads the number in the tag of a request (`If-None-Match`).
+//! Writes the entity tags (`ETag`) of replies, and reads the number in the tag of a request (`If-None-Match`). The only
+//! error of the functions here is out of memory.
 ghost use Rattle.std.specs.Prelude.{◌≡◌, [], length, IfOk, string_bytes};
 ghost use Rattle.unl_core.specs.Tag.{if_spelled, inlined_tag, number_of_tag, number_part, since_of, tag_prefix, tag_text};
 ghost use Rattle.unl_core.specs.Tag.{whole_in, with_epoch};
@@ -61,7 +62,7 @@ fn epoch_mark(alloc: Global, epoch: u64) -> Result<String, AllocError>
 }
 
 /// The number in a request's tag. `None` if the request has no tag, or if the tag isn't exactly what `tag_of` returns
-/// for some number, this token and this epoch.
+/// for any number, with this token and this epoch.
 pub(crate) fn since_of(
     alloc: Global,
     board: &Board,
