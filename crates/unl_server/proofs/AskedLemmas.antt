@@ -8,7 +8,8 @@ use Rattle.unl_http_api.specs.declared.request.Request.{Request}
 use Rattle.unl_http_api.specs.Session.{ReadsRequests}
 use Rattle.unl_http_api.proofs.SessionLemmas.{Reads-append, Reads_more}
 
--- The bytes begin with some requests, which were answered. If memory ran out, it may have been while one more request was answered.
+-- The bytes begin with `requests`, each of which was answered. If memory ran out, that may have happened while one more request was
+-- handled, which is then not among `requests`.
 pub record Asks
     {S : Type 0} (Step : S → Request → Reply → S → Type 0) (RunsOut : S → Request → S → Type 0) (bytes : List ℕ) (before : S)
     (end : End) (after : S) : Type 0 where
@@ -73,7 +74,7 @@ by_refusal bytes before after end sent sent_after cut = record {
   next = inl refl;
 }
 
--- one more request was answered
+-- `AreAnswered` still holds after one more request is answered
 answered_more : {S : Type 0} (Step : S → Request → Reply → S → Type 0)
     (count : ℕ) (qs : List Request) (text : List ℕ) (before middle after : S) (q : Request) (reply : Reply)
     → AreAnswered Step count before qs text middle → Step middle q reply after → (longer : List ℕ) × AreAnswered Step count before (qs ++ q ∷ []) longer after
@@ -124,7 +125,7 @@ by_memory {S} {Step} {RunsOut} bytes before after sent sent_after faults faults_
     by_next (inl same) = here (inl same)
     by_next (inr u) = by_unreplied u u.unreplied
 
--- the requests that were read from a link
+-- however a connection ended, the bytes of its link begin with the requests that were answered (`Asks`)
 pub asks : {S : Type 0} {Step : S → Request → Reply → S → Type 0} {RunsOut : S → Request → S → Type 0}
     (bytes : List ℕ) (before after : S) (end : End) (sent left_after sent_after : Option (List ℕ)) (faults faults_after : ℕ)
     → Concludes Step bytes sent before end after left_after sent_after

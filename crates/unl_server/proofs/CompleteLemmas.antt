@@ -22,7 +22,7 @@ abbrev pub Completes :
 Completes Step asked sent before result end after sent_after =
     (result ≡ end) × AnswersAll Step asked sent before end after sent_after
 
--- the session that was served is the only one
+-- bytes form only one session, so if one was served, its end and its requests are those of any session of these bytes
 served_whole : {S : Type 0} (Step : S → Request → Reply → S → Type 0) (bytes : List ℕ) (asked : List Request) (end : End)
     (sent : Option (List ℕ)) (before : S) (result : End) (after : S) (sent_after : Option (List ℕ))
     → Session bytes asked end → Serves Step bytes sent before result after sent_after
@@ -73,7 +73,7 @@ completes_whole Step bytes asked sent before result after left_after sent_after 
       subst (λ (e : End). AnswersAll Step asked sent before e after sent_after) (sym all.0) all.1,
     )
 
--- all clauses of a conversation
+-- a conversation has all properties in `Converses` if it has all but `complete` and `whole`, which follow from the others
 pub converses_so : {S : Type 0} (Step : S → Request → Reply → S → Type 0) (RunsOut : S → Request → S → Type 0) (link : LinkView)
     (before : S) (end : End) (after : S) (count : ℕ) (link_after : LinkView)
     → ((bytes : List ℕ) → link.left ≡ Some bytes → Concludes Step bytes link.sent before end after link_after.left link_after.sent)

@@ -18,7 +18,7 @@ use Rattle.unl_server.proofs.ReceiveLemmas.{Takes_nothing, Takes_more}
 
 -- ---- the text of the replies
 
--- one more reply follows
+-- `AreAnswered` still holds after one more request and its reply
 pub Answered_more : {S : Type 0} (Step : S → Request → Reply → S → Type 0) (count : ℕ) (before middle after : S)
     (qs : List Request) (text : List ℕ) (q : Request) (reply : Reply) (last : Bool)
     → AreAnswered Step count before qs text middle → Step middle q reply after → last ≡ (count + length qs == 999)
@@ -64,7 +64,7 @@ turn_reads Sent Step start now new requests last close talk turn =
     Reads_more (talk.read ++ turn.read) requests turn.request (now.held ++ turn.read) new.held
     (Reads-append talk.read requests now.held turn.read talk.reads) turn.begins
 
--- the request that was read was answered
+-- all requests, including the one that this turn read, were answered
 turn_answered : {S : Type 0} (Sent : Option (List ℕ) → List ℕ → Option (List ℕ) → Type 0)
     (Step : S → Request → Reply → S → Type 0) (start now new : ConnectionState S) (requests : List Request) (last close : Bool)
     (talk : Talk Step start now requests) → last ≡ (length requests == 999) → (turn : Exchanges Sent Step last close now new)
@@ -96,7 +96,7 @@ Takes_known bytes read (Some rest) took = (rest, refl, cc)
 
 -- ---- how it ends
 
--- at the beginning nothing is held
+-- at the beginning, no bytes are held, and no requests were read or answered
 pub Talk_begin : {S : Type 0} (Step : S → Request → Reply → S → Type 0) (left sent : Option (List ℕ)) (state : S)
     → Talk Step (record { held = []; left = left; state = state; sent = sent })
     (record { held = []; left = left; state = state; sent = sent }) []
@@ -122,7 +122,7 @@ concluded Step start now requests bytes end talk session sent_after goodbye = re
   sends = Sends_more start.sent now.sent sent_after talk.text (farewell end) talk.sends goodbye;
 }
 
--- the last request asked to close
+-- if the last request asked to close the connection, a session with the end `Asked` was served
 concludes_asked : {S : Type 0} (Step : S → Request → Reply → S → Type 0) (start now new : ConnectionState S)
     (requests : List Request) (last : Bool) (bytes : List ℕ) → Talk Step start now requests
     → last ≡ (length requests == 999) → StayOpen requests → length requests < 1000 → start.left ≡ Some bytes
@@ -135,7 +135,7 @@ concludes_asked Step start now new requests last bytes talk is stay few known tu
     (Session-asked more.read prefix.0 requests turn.request new.held more.reads stay turn.closes few))
     new.sent (Sends_nothing new.sent)
 
--- the limit of requests was reached
+-- if the limit of 1,000 requests was reached, a session with the end `Limit` was served
 pub concludes_limit : {S : Type 0} (Step : S → Request → Reply → S → Type 0) (start now : ConnectionState S)
     (requests : List Request) (bytes : List ℕ) → Talk Step start now requests → StayOpen requests
     → length requests ≡ 1000 → start.left ≡ Some bytes → Serves Step bytes start.sent start.state Limit now.state now.sent
@@ -146,7 +146,7 @@ concludes_limit Step start now requests bytes talk stay full known =
     (Session-limit talk.read prefix.0 requests now.held talk.reads stay full))
     now.sent (Sends_nothing now.sent)
 
--- the bytes read when the connection stopped
+-- the bytes that were read until the connection stopped are a prefix of all bytes, and begin with the requests
 stopped : {S : Type 0} (Sent : Option (List ℕ) → List ℕ → Option (List ℕ) → Type 0)
     (P : List ℕ → Option (List ℕ) → Type 0) (goodbye : List ℕ) (Step : S → Request → Reply → S → Type 0)
     (start now new : ConnectionState S) (requests : List Request) (bytes : List ℕ) → (talk : Talk Step start now requests)
@@ -166,7 +166,7 @@ all_read bytes read rest left known split ended =
     let empty : rest ≡ [] = subst HasEnded known ended in
     sym (split ∙ ap (λ (r : List ℕ). read ++ r) empty ∙ append-nil read)
 
--- the connection stopped where the session ends
+-- if the connection stopped and the bytes are a session with these requests and this end, that session was served
 stops_serves : {S : Type 0} (P : List ℕ → Option (List ℕ) → Type 0) (goodbye : List ℕ)
     (Step : S → Request → Reply → S → Type 0) (start now new : ConnectionState S) (requests : List Request) (bytes : List ℕ)
     (end : End) → Talk Step start now requests → Stops Sends P goodbye now new → goodbye ≡ farewell end
@@ -234,7 +234,7 @@ cut_in_refusal {S} Step start now new requests bytes status talk stay few known 
       sends = SendsPrefix_after start.sent now.sent new.sent talk.text (refusal_text status) talk.sends stop.sends;
     }
 
--- every end is the session's
+-- whatever the end of the connection, what was answered and sent agrees with it (`Concludes`)
 pub concludes : {S : Type 0} (Step : S → Request → Reply → S → Type 0) (RunsOut : S → Request → S → Type 0)
     (start now new : ConnectionState S) (requests : List Request) (last : Bool) (bytes : List ℕ) (end : End)
     → Talk Step start now requests → last ≡ (length requests == 999) → StayOpen requests → length requests < 1000

@@ -24,7 +24,7 @@ door_links_more {S} Serves n before middle after links link =
     both : ServesDoorLinks Serves (suc n) before after
     both = (middle, links, link)
 
--- after n links, nothing changed: still n links
+-- if nothing changed after n links, n links were served
 pub door_links_same : {S : Type 0} (Serves : S → Coming → LinkView → LinkView → S → Coming → Type 0) (n : ℕ)
     (before middle after : ServerAndDoor S)
     → ServesDoorLinks Serves n before middle → after ≡ middle → ServesDoorLinks Serves n before after
@@ -124,7 +124,7 @@ first_of : (links : List (List ℕ)) → ¬ (links ≡ []) → links ≡ next_of
 first_of [] some = absurd (some refl)
 first_of (bytes ∷ links) some = refl
 
--- one more link was served
+-- `ServesLinks` still holds after one more link is served
 serves_more : {S : Type 0} (Serves : S → Coming → LinkView → LinkView → S → Coming → Type 0)
     (LinkServed : S → Coming → List ℕ → List ℕ × ℕ → S → Coming → Type 0) → Observable Serves LinkServed
     → (before middle after : ServerAndDoor S) (n : ℕ) (links : List (List ℕ)) (returned : List (List ℕ × ℕ))
@@ -162,7 +162,7 @@ serves_more {S} Serves LinkServed observable before middle after n links returne
           after.server after.coming ones.linked seen.served;
     }
 
--- the links of a door were served, as far as they are observable
+-- serving `n` links of a door has the effect `HandsBack`, which describes each link if the links of the door are observable
 pub hands_back : {S : Type 0} (Serves : S → Coming → LinkView → LinkView → S → Coming → Type 0)
     (LinkServed : S → Coming → List ℕ → List ℕ × ℕ → S → Coming → Type 0) → Observable Serves LinkServed
     → (n : ℕ) (before after : ServerAndDoor S) → ServesDoorLinks Serves n before after

@@ -42,7 +42,7 @@ turn_refused Step RunsOut last old new status Asked held left sent receives same
 turn_refused Step RunsOut last old new status Limit held left sent receives same same_state unsent refuses = absurd refuses
 turn_refused Step RunsOut last old new status CutOff held left sent receives same same_state unsent refuses = absurd refuses
 
--- the end of the connection if a refusal was not sent in full
+-- if the text of a refusal was not sent in full (`Writes` with this end), the effect is `SendsRefusal` with the same end
 pub refused_end : (status : ℕ) (sent sent_after : Option (List ℕ)) (text : List ℕ) (end : End) → text ≡ refusal_text status
     → Writes text sent (Some end) sent_after → SendsRefusal status sent end sent_after
 refused_end status sent sent_after text WriteFault is writes =
@@ -90,7 +90,7 @@ turn_cut Step RunsOut last close old new request Asked held left sent receives s
 turn_cut Step RunsOut last close old new request Limit held left sent receives same same_held unsent is replied = absurd replied
 turn_cut Step RunsOut last close old new request CutOff held left sent receives same same_held unsent is replied = absurd replied
 
--- how much of the reply to an answered request was sent
+-- if the handler answered and its reply was sent as `Writes` says, the effect is `Replied`
 pub replied_so : {S : Type 0} (Step : S → Request → Reply → S → Type 0) (RunsOut : S → Request → S → Type 0)
     (request : Request) (close : Bool) (before after : S) (reply : Reply) (sent : Option (List ℕ)) (end : Option End)
     (sent_after : Option (List ℕ)) → Step before request reply after → Writes (reply_text reply close) sent end sent_after

@@ -20,7 +20,7 @@ use Rattle.unl_server.proofs.ConversationLemmas.{Answered_more, Takes_known, Tal
 
 -- ---- out of memory
 
--- a request without a complete reply begins the bytes that were left
+-- if a request was read and not replied to in full (`Breaks`), the bytes held and the bytes left before the turn begin with it
 breaks_known : {S : Type 0} (Step : S → Request → Reply → S → Type 0) (RunsOut : S → Request → S → Type 0)
     (now new : ConnectionState S) (rest : List ℕ) → now.left ≡ Some rest → Breaks Step RunsOut now new
     → IsUnreplied Step RunsOut (now.held ++ rest) now.state new.state
@@ -49,7 +49,7 @@ rose_earlier : {P : Type 0} (a b c : ℕ) → a ≤ b → P ⊎ Rose b c → P �
 rose_earlier a b c up (inl p) = inl p
 rose_earlier a b c up (inr rose) = inr (omega (arith, up, rose))
 
--- memory ran out after these requests
+-- if memory ran out in the turn after these requests, the connection ended as `GivesUp` says
 pub gives_up : {S : Type 0} (Step : S → Request → Reply → S → Type 0) (RunsOut : S → Request → S → Type 0)
     (start now new : ConnectionState S) (requests : List Request) (last : Bool) (bytes : List ℕ) (end : End)
     (faults between faults_after : ℕ) → Talk Step start now requests → StayOpen requests → length requests < 1000
@@ -112,7 +112,7 @@ reaches_more Step RunsOut count counts start now after requests end request repl
   next = inl refl;
 }
 
--- no more requests were answered
+-- if the last turn left the handler's state unchanged, `requests` are all that were answered
 pub reaches_same : {S : Type 0} (Step : S → Request → Reply → S → Type 0) (RunsOut : S → Request → S → Type 0)
     (count : S → ℕ) (start now : ConnectionState S) (after : S) (requests : List Request) (end : End)
     → Talk Step start now requests → length requests ≡ count now.state → after ≡ now.state

@@ -10,7 +10,7 @@ pub Takes_nothing : (left : Option (List ℕ)) → Takes left [] left
 Takes_nothing None = refl
 Takes_nothing (Some bytes) = refl
 
--- two reads, one after the other, are one
+-- two reads, one after the other, have the effect of one read of all their bytes
 pub Takes_more : (old mid new : Option (List ℕ)) (a b : List ℕ) → Takes old a mid → Takes mid b new → Takes old (a ++ b) new
 Takes_more old mid None a b x y = x ∙ ap (λ (o : Option (List ℕ)). option_map (λ rest. a ++ rest) o) y
 Takes_more old mid (Some rest) a b x y =

@@ -8,12 +8,12 @@ use Rattle.unl_server.specs.Conversation.{AreAnswered, AnswersAll, Concludes, Co
 use Rattle.unl_server.specs.Exchange.{Unreplied}
 use Rattle.unl_server.specs.Links.{LinkView}
 
--- this state is the last one, or memory ran out at one more request
+-- `after` is `state`, or the state that follows it if memory ran out before one more request was replied to in full
 abbrev pub IsNear :
     {S : Type 0} → (S → Request → Reply → S → Type 0) → (S → Request → S → Type 0) → S → S → Type 0
 IsNear Step RunsOut state after = (after ≡ state) ⊎ ((q : Request) × Unreplied Step RunsOut state q after)
 
--- the steps of the states are steps of their views
+-- `view` maps the steps that led from `before` to `after` (`Step`, `RunsOut`) to steps of the views (`Seen`, `Misses`)
 pub record Shows
     {S T : Type 0} (Step : S → Request → Reply → S → Type 0) (RunsOut : S → Request → S → Type 0)
     (Seen : T → Request → Reply → T → Type 0) (Misses : T → Request → T → Type 0) (view : S → T)
@@ -163,7 +163,7 @@ Reaches_seen {Step} {RunsOut} {view} {after} end count shows reaches = record {
   next = reached_seen reaches.reached end shows reaches.next;
 }
 
--- all clauses of a conversation
+-- if `Converses` holds for the states, it holds for their views
 pub Converses_seen : {S T : Type 0} {Step : S → Request → Reply → S → Type 0} {RunsOut : S → Request → S → Type 0}
     {Seen : T → Request → Reply → T → Type 0} {Misses : T → Request → T → Type 0} {view : S → T} {before after : S}
     (link : LinkView) (end : End) (count : ℕ) (link_after : LinkView) → Shows Step RunsOut Seen Misses view before after

@@ -22,7 +22,8 @@ AreAnswered {S} Step count before (q ∷ qs) text after =
     × (text ≡ reply_text reply (q.close || count == 999) ++ more)
     × AreAnswered Step (count + 1) middle qs more after
 
--- the bytes that are sent after the replies if the connection ends for this reason: a refusal, or nothing
+-- the bytes that are sent after the replies if the connection ends for this reason: a refusal, or nothing. The 500 reply that is sent at
+-- the end `Memory` isn't included; see `GivesUp`.
 abbrev pub farewell : End → List ℕ
 farewell Closed = []
 farewell Asked = []
@@ -122,7 +123,7 @@ Concludes Step bytes sent before WriteFault after left_after sent_after =
     CutInReply Step bytes sent before after sent_after ⊎ CutInRefusal Step bytes sent before after sent_after
 Concludes Step bytes sent before Memory after left_after sent_after = ⊤
 
--- each of these requests was answered, and then the bytes were sent that belong to this end (`farewell`)
+-- each of these requests was answered, and the replies were sent, followed by the bytes for this end (`farewell`)
 pub record AnswersAll
     {S : Type 0} (Step : S → Request → Reply → S → Type 0) (requests : List Request) (sent : Option (List ℕ)) (before : S)
     (end : End) (after : S) (sent_after : Option (List ℕ)) : Type 0 where
@@ -162,7 +163,7 @@ pub record Converses
       → GivesUp Step RunsOut bytes link.sent link.faults before after link_after.sent link_after.faults
   -- in every case, `count` requests were answered one after another
   pub answered : Reaches Step RunsOut before end after count
-  -- a fault is reported only if the link's fault count rose
+  -- the link's fault count never falls, and a fault is reported only if the count rose
   pub later : link.faults ≤ link_after.faults
   pub read_cause : end ≡ ReadFault → Rose link.faults link_after.faults
   pub write_cause : end ≡ WriteFault → Rose link.faults link_after.faults

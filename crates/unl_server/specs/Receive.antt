@@ -7,7 +7,7 @@ use Rattle.unl_server.specs.declared.receive.Received.{Received}
 use Rattle.unl_server.specs.declared.receive.Received.TheVariants.{Request as Whole, Bad, Closed, CutOff, ReadFault, Memory}
 
 -- What was found at the start of `bytes`: a request, after which `held` is left; bytes that are refused with this status; or no whole
--- request, after which the input ended or a read failed. If memory ran out, nothing is said. `left` are the bytes that can still be read.
+-- request, because the input ended or a read failed. If memory ran out, nothing is said. `left` are the bytes that can still be read.
 abbrev pub IsNextItem : List ℕ → Option (List ℕ) → Received → List ℕ → Type 0
 IsNextItem bytes left (Whole request) held = BeginsWith bytes request held
 IsNextItem bytes left (Bad status) held = IsBad bytes status × IsStatusCode status

@@ -19,8 +19,8 @@ pub trait Server {
     /// holds the same references.
     ghost keeps: { Self → Self → Type 0 };
 
-    /// The effect of serving a link: it relates the server and the coming draws before, the link before and after, and
-    /// the server and the coming draws after.
+    /// The effect of serving a link: it relates the server and the coming draws (a time and a random word for each of
+    /// the next requests) before, the link before and after, and the server and the coming draws after.
     ghost serves: { Self → Coming → LinkView → LinkView → Self → Coming → Type 0 };
 
     /// Serves a link, and then does the server's own work after each link, such as passing on the metrics that it
@@ -49,8 +49,8 @@ pub(crate) enum LinkOutcome {
     Closed,
 }
 
-/// Serves the links of a door, one after another, and returns each, until the door is closed. Returns how many links
-/// were served. If a link fails, or memory runs out while a link is served, only that link ends.
+/// Serves the links of a door, one after another, and gives each back to the door, until the door is closed. Returns
+/// how many links were served. If a link fails, or memory runs out while a link is served, only that link ends.
 ///
 /// # Errors
 /// `Failed`: the door could not hand out a link. The door increments its fault count.

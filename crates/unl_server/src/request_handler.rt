@@ -20,20 +20,23 @@ pub trait RequestHandler {
     /// The state of the handler, with everything that it records and counts. Each request may change it.
     type State;
 
-    /// The precondition of `answer`, on the number of requests answered before on the connection, and on the state.
+    /// The precondition of `answer`, on the number of requests answered before on the connection, and on the state. It
+    /// also holds after `answer`, with the new number and state.
     ghost fits: { ℕ → Self.State → Type 0 };
 
     /// A relation that holds between the states before and after any number of calls, such as that the state still
     /// holds the same references.
     ghost keeps: { Self.State → Self.State → Type 0 };
 
-    /// The effect of a successful answer: the state before, the request, its draw, the reply, and the state after.
+    /// The effect of a successful answer: the state before, the request, its draw (a time and a random word), the
+    /// reply, and the state after.
     ghost gives: { Self.State → Request → Draw → Reply → Self.State → Type 0 };
 
     /// The effect of running out of memory at a request: the state before, the request, its draw, and the state after.
     ghost out_of_memory: { Self.State → Request → Draw → Self.State → Type 0 };
 
-    /// Computes the reply to a request. `count` requests were answered on its connection before.
+    /// Computes the reply to a request, with the time and the random word of `draw`. `count` requests were answered on
+    /// its connection before.
     ///
     /// # Errors
     /// `Memory`: out of memory. The request then counts as not answered.

@@ -14,8 +14,8 @@ use unl_documents::{List, Memory};
 use unl_http_api::{End, Reader, Reply, Request, WriteRefusal, write_500, write_reply};
 
 /// Serves one request. Returns `None` if the whole reply was sent and the request did not ask to close the connection,
-/// otherwise why the connection ended. `last`: this is the last request that the connection may serve, so the reply
-/// closes the connection.
+/// otherwise why the connection ended. `last`: whether this is the last request that the connection may serve; if so,
+/// the reply closes the connection.
 pub(crate) fn serve_request<A: RequestHandler, L: Link, R: Draws>(
     alloc: Global,
     reader: &mut Reader,
@@ -130,8 +130,8 @@ fn refuse<L: Link>(alloc: Global, link: &mut L, status: u16) -> End
     }
 }
 
-/// Sends a reply. `close`: whether the reply closes the connection. Returns `None` if all of the reply was sent,
-/// otherwise why the connection ended.
+/// Sends a reply. `close`: whether the reply closes the connection. If memory runs out, tries to send a 500 reply
+/// instead. Returns `None` if all of the reply was sent, otherwise why the connection ended.
 fn send<L: Link>(alloc: Global, reply: &Reply, close: bool, link: &mut L) -> Option<End>
     requires { IsStatusCode reply.now.status }
     ensures writes { Writes (reply_text reply.now close) (L.sent link.old) result (L.sent link.new) }

@@ -5,7 +5,7 @@ use Rattle.unl_server.specs.Handling.{HandlesRequest, handler_state}
 use Rattle.unl_server.proofs.ConversationLemmas.{Talk}
 use Rattle.unl_server.proofs.conversation.serve_requests.Given as goal
 
--- as many requests as turns were answered, and none of them ends the connection
+-- the loop invariant of `serve_requests`: each turn so far answered one request, and none of these requests ends the connection
 abbrev pub invariant-loop-turn : goal.invariant-loop-turn
 invariant-loop-turn g l = record {
   requests : List Request;

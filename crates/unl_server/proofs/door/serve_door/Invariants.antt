@@ -3,7 +3,7 @@ use Rattle.unl_base.specs.Doors.{IsListening}
 use Rattle.unl_server.specs.ServingDoor.{ServesDoorLinks, server_and_door}
 use Rattle.unl_server.proofs.door.serve_door.Given as goal
 
--- `served` links were served so far
+-- the loop invariant of `serve_door`: `served` links were served so far, and the door listens on the same ports
 abbrev pub invariant-loop-served : goal.invariant-loop-served
 invariant-loop-served g l = record {
   listens : IsListening (g.D.Door.state l.door);
