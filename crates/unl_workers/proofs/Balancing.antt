@@ -1,4 +1,5 @@
--- Lemmas: each operation on a queue of links keeps its rule (`IsBalanced`).
+-- Lemmas: each operation on a queue of links keeps the rule `IsBalanced`, by which the links that were put are those that were taken and
+-- those that are queued.
 use Rattle.std.proofs.Common.{◌≡◌, ◌≢◌, ℕ, ◌<◌, inl, inr, ⊎_elim, List, [], ◌∷◌, ◌++◌, set, sym, refl, ap, ◌∙◌, subst, arith}
 use mathlib.Core.Option.{some, some-ne-none}
 use lib.ListN.{get_elem?}

@@ -23,12 +23,12 @@ joined : {Y : Type 0} (one : Option Y) (rest : List Y) → option_to_list one ++
 joined None rest = refl
 joined (Some y) rest = refl
 
--- the worker of the first job, if it is one, and those of the others
+-- the workers among the jobs: the first job, if it is a worker, and the workers among the other jobs
 pub chunked : {X Y : Type 0} (h : X → Option Y) (job : X) (before rest : List X) → before ≡ job ∷ rest
     → filter_map h before ≡ option_to_list (h job) ++ filter_map h rest
 chunked h job before rest steps = ap (filter_map h) steps ∙ sym (joined (h job) (filter_map h rest))
 
--- the same jobs have the same slots
+-- equal lists of jobs have equal lists of worker slots
 pub same_slots : {S R L W B : Type 0} (jobs done : List (PoolJob S R L W B)) → jobs ≡ done
     → map slot_of (filter_map worker_of jobs) ≡ map slot_of (filter_map worker_of done)
 same_slots {S} {R} {L} {W} {B} jobs done same = ap (λ (all : List (PoolJob S R L W B)). map slot_of (filter_map worker_of all)) same

@@ -34,7 +34,8 @@ abbrev pub with_draws : {S : Type 0} → (S → Coming → LinkView → LinkView
     → ServerAndDraws S → LinkView → LinkView → ServerAndDraws S → Type 0
 with_draws Serves before link link_after after = Serves before.server before.coming link link_after after.server after.coming
 
--- the worker with this slot took and served `after.links` links (a count), and then took the entry that marks the end of the queue
+-- the worker with this slot took and served as many links as the count `after.links` says, and then took the entry that marks the end of
+-- the queue
 abbrev pub TakesAndServesAt :
     {S R L : Type 0} → (S → Coming → LinkView → LinkView → S → Coming → Type 0) → (R → Coming) → (L → LinkView)
     → QueueTally L → WorkerSlot S R → QueueTally L → WorkerSlot S R → Type 0

@@ -29,7 +29,7 @@ pub(crate) struct Acceptor<'a, D: Door, W> {
     pub rt: &'a W,
     /// Whether the acceptor has closed the queue.
     pub closed: bool,
-    /// The number of links queued, and whether the door failed.
+    /// The number of links queued, and whether the door failed. Before the job runs: 0 and `Failed`.
     pub outcome: AcceptOutcome,
     ghost listens: { IsListening (D.state door.now) },
     ghost queue_is: { IsPassOfQueue queue.now pass },
@@ -99,7 +99,8 @@ where
     }
 }
 
-/// Accepts links until the door is closed or fails, and puts each into the queue. Blocks while the queue is full.
+/// Accepts links until the door is closed or fails, and puts each into the queue. Blocks while no link arrives, and
+/// while the queue is full. After 2^64 - 1 links it never returns.
 fn accept_all<D: Door, W: Wait>(
     rt: &W,
     queue: &LinkQueue<D::L>,

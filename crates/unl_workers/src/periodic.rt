@@ -8,14 +8,14 @@ use std::alloc::Global;
 use std::sync::Wait;
 use unl_base::{Job, Pace};
 
-/// A task that is repeated: each turn does its work once. An implementation must not own a value whose type isn't
-/// `Drop`: it holds a `&mut` to each such value, each with a lifetime parameter of its own.
+/// A task that is repeated: each turn does its work once. An implementation may own only values whose types are `Drop`.
+/// It holds every other value by a `&mut` with a lifetime parameter of its own.
 pub trait PeriodicTask {
     /// The effect of a turn: the task before and after it.
     ghost turned: { Self → Self → Type 0 };
 
-    /// The relation between the task before and after any number of turns. It includes at least that the task still
-    /// holds the same references.
+    /// The relation between the task before and after any number of turns. An implementation must define it so that it
+    /// implies at least that the task still holds the same references.
     ghost keeps: { Self → Self → Type 0 };
 
     /// Makes a turn. The task handles its own failures, including out of memory.

@@ -44,13 +44,13 @@ pub enum PoolFault {
 }
 
 /// Accepts the links of a door on this thread until the door is closed or fails. Concurrently, each in a thread of its
-/// own, one worker for each slot serves them, and `turn` runs at a pace until the pace ends or no more links are
-/// accepted. If the door fails, the links that it handed out before are served as well. May block. Without a slot no
-/// link is served, and the call never returns if the door hands out more than 64.
+/// own, one worker for each slot serves them, and `turn` makes its turns at `pace` until none remains or no more links
+/// are accepted. If the door fails, the links that it handed out before are served as well. May block. Without a slot
+/// no link is served, and the call never returns if the door hands out more than 64.
 ///
 /// # Errors
-/// `Spawner` if a job couldn't be started, and `Memory` if memory for the queue or the jobs runs out. No link was
-/// accepted then, and the slots are dropped.
+/// `Spawner` if a job couldn't be started, and `Memory` if memory for the queue or the jobs runs out. In both cases no
+/// link was accepted, and the slots are dropped.
 pub fn run_pool<S, R, D: Door, N, T, P: Spawner, W: Wait + Sync>(
     alloc: Global,
     rt: &W,
@@ -168,8 +168,8 @@ where
     }
 }
 
-/// Does nothing at run time. The call is the last use of a reference that a function returned: the borrow of the
-/// variable ends here, with the value behind the reference unchanged.
+/// Does nothing at run time. The call is the last use of a reference that a function returned: the borrow ends here,
+/// with the value behind the reference unchanged.
 fn take_back<T>(x: &mut T)
     ensures { x.new ≡ x.old }
 {}

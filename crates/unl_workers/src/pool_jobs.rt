@@ -40,8 +40,9 @@ impl<'a, S: LinkHandler, R: Draws, L: Link + Drop, W: Wait, B: Job> Job
     fn cancel(&mut self) {}
 }
 
-/// Creates a worker for each slot (a server and its draws), each with a pass of its own that is split off from `pass`.
-/// The vector of workers has capacity for one more job. Also returns an empty vector with capacity for all slots.
+/// Creates a worker for each slot (a server, with a time and a random word for each request), each with a pass of its
+/// own that is split off from `pass`. The vector of workers has capacity for one more job. Also returns an empty vector
+/// with capacity for all slots.
 ///
 /// # Errors
 /// Out of memory.

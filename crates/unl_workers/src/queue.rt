@@ -26,7 +26,7 @@ pub type QueuePass<L> = Pass<QueueEntry<L>, QueueTally<L>>;
 /// A queue of links that wait for a worker. Threads share it by reference, each with a pass of its own.
 ///
 /// Each entry is put and taken while `closed` is locked. A thread that must wait does so at a condition variable:
-/// `news` for an entry, `room` for free room.
+/// `news` for an entry, `room` for free space.
 #[derive(Drop)]
 pub struct LinkQueue<L> {
     links: RuledArrayQueue<QueueEntry<L>, QueueTally<L>, BalancedLinks>,
@@ -37,7 +37,7 @@ pub struct LinkQueue<L> {
 }
 
 impl<L> LinkQueue<L> {
-    /// Whether the queue is closed.
+    /// Whether the queue is closed, so that no more links come. Links may still be queued.
     pub fn closed<W: Wait>(&self, rt: &W) -> bool {
         *self.closed.lock(rt)
     }
@@ -85,7 +85,7 @@ impl<L: Drop> LinkQueue<L> {
     }
 
     /// Does nothing at run time. Proves: if the pass has all parts and the end marker was taken, the links that were
-    /// put are the links that were taken.
+    /// put are the links that were taken, perhaps in another order.
     pub fn all_taken(&self, pass: &mut QueuePass<L>)
         requires queue { IsPassOfQueue self.now pass.old }
         requires whole { (view pass.old).parts ≡ 2 ^ 64 }

@@ -116,7 +116,7 @@ impl<L> LinkState<L> {
         self.links.is_empty() && !self.closed
     }
 
-    /// Whether the queue is closed.
+    /// Whether the queue is closed, so that no more links come. Links may still be queued.
     pub fn closed(&self) -> bool
         ensures { result ≡ self.now.closed }
     {

@@ -1,10 +1,10 @@
 //! The entries of a queue of links, and the rules by which contracts record the links that each thread put and took. A
-//! thread uses the queue by a pass, and the tally of the pass is that record.
+//! thread uses the queue through a pass, and the tally of the pass is that record.
 
 use crossbeam_queue::protocol::{Join, Lesson, Outcome, Protocol, Split};
 use std::collections::LinkedList;
 
-/// An entry of a queue.
+/// An entry of a queue of links: a link, or the end marker that closes the queue.
 #[derive(Drop)]
 pub enum QueueEntry<L> {
     /// A link.

@@ -75,7 +75,8 @@ pub(crate) fn serve_all<S: LinkHandler, R: Draws, L: Link + Drop, W: Wait>(
 }
 
 /// Does the work of one worker: takes links from the queue and serves each, until the queue is closed and empty.
-/// Returns how many were served. May block. `pass` is the worker's right to use the queue.
+/// Returns how many were served. May block. `pass` is the worker's right to use the queue. After 2^64 - 1 links the
+/// call never returns.
 pub fn run_worker<S: LinkHandler, R: Draws, L: Link + Drop, W: Wait>(
     alloc: Global,
     rt: &W,
