@@ -41,12 +41,12 @@ pub record Sums
   pub drawn : TakesDraws coming ones coming_after
   pub keeps : Keeps before.board_at after.board_at
 
--- fronts that rise from one front rise from any earlier one
+-- fronts that rise from one front also rise from any lower front
 Rise_from : (first one last : ℕ) (ones : List ServedOne) → first ≤ one → FrontsRise one ones last → FrontsRise first ones last
 Rise_from first one last [] up rise = omega (arith, up, rise)
 Rise_from first one last (other ∷ ones) up rise = (omega (arith, up, rise.0), rise.1)
 
--- fronts that rise to one front rise to any later one
+-- fronts that rise to one front also rise to any higher front
 Rise_to : (first last more : ℕ) (ones : List ServedOne) → FrontsRise first ones last → last ≤ more → FrontsRise first ones more
 Rise_to first last more [] rise up = omega (arith, rise, up)
 Rise_to first last more (one ∷ ones) rise up = (rise.0, Rise_to one.front last more ones rise.1 up)
@@ -67,7 +67,7 @@ Sums_more before middle after coming next coming_after request draw reply ones t
   keeps = λ k board known. sums.keeps k board (over.keeps k board known);
 }
 
--- a chain of answers appends notes, which say what it did
+-- a chain of answers appends notes, which say what the chain did to the desk and the draws
 pub summed : {S : Type 0} (seen : S → DeskNotes) (count : ℕ) (before after : HandlerState S) (qs : List Request)
     (text : List ℕ) → AreAnswered (Over seen) count before qs text after
     → (ones : List ServedOne) × ((noted_of seen after).ones ≡ (noted_of seen before).ones ++ ones)

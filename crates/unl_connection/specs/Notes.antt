@@ -51,7 +51,7 @@ FrontsRise first (one ∷ ones) last = (first ≤ one.front) × FrontsRise one.f
 abbrev pub fronts_of : List ServedOne → List ℕ
 fronts_of ones = map (λ one. one.front) ones
 
--- The desk looked once for each note, and found the board of the note's front. If memory ran out, it may have looked once more.
+-- For each note, the desk looked once and found the board of the note's front. If memory ran out, it may have looked once more.
 -- `fronts` and `fronts_after` are the fronts of all looks of the desk before and after, or `None` if these are not observable.
 abbrev pub LooksFor : Option (List ℕ) → List ServedOne → End → Option (List ℕ) → Type 0
 LooksFor fronts ones end fronts_after =
@@ -76,7 +76,7 @@ pub record KnownDesk : Type 0 where
   pub board_at : ℕ → Option Board
   pub fronts : Option (List ℕ)
 
--- what is known of a desk, from the ghost functions `front`, `board_at` and `fronts` of its `Desk` implementation
+-- what is known of a desk, from the specification-only members `front`, `board_at` and `fronts` of its `Desk` implementation
 abbrev pub known_by : {D : Type 0} → (D → ℕ) → (D → ℕ → Option Board) → (D → Option (List ℕ)) → D → KnownDesk
 known_by front board_at fronts desk = record { front = front desk; board_at = board_at desk; fronts = fronts desk }
 

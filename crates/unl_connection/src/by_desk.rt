@@ -1,4 +1,5 @@
-//! The request handler of a connection: a desk answers each request.
+//! The request handler of a connection: a desk answers each request, from the board (the state of the environments and
+//! tokens) that is published at that moment.
 
 use crate::served::{Served, ServedOne};
 use std::alloc::Global;
@@ -15,7 +16,7 @@ use unl_server::RequestHandler;
 pub(crate) struct DeskHandler<'a, D> {
     /// Answers the requests.
     pub desk: &'a mut D,
-    /// Sums the metrics reports that answers have.
+    /// Adds up the metrics reports that answers have.
     pub book: &'a mut MetricsBook,
     /// Receives one note for each answer.
     pub served: &'a mut Served,

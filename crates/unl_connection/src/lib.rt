@@ -1,5 +1,5 @@
-//! Serves one connection: reads its requests from a link, gets the answer to each from a desk, notes the answered
-//! requests in [`Served`], and sends the replies in order.
+//! Serves one connection: reads its requests from a link, gets the answer to each from a desk (which answers from the
+//! published environments and tokens), notes the answered requests in [`Served`], and sends the replies in order.
 #![tactic(auto)]
 
 mod by_desk;

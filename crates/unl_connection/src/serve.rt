@@ -14,10 +14,11 @@ use unl_http_api::End;
 use unl_metrics::MetricsBook;
 use unl_server::serve_requests;
 
-/// Serves a connection until it ends. The desk answers each request, and the reply of the answer is sent. The front
-/// (the number of installs that led to the board of the answer) and the draw (a time and a random word) are noted
-/// in `served`, which must be empty at the start. The metrics that the request reports are added to `book`. If the book
-/// has no room for them, the reply is a 503 and the book is unchanged. Returns why the connection ended.
+/// Serves a connection until it ends. The desk answers each request from the board (the environments and tokens) that
+/// is published at that moment, and the reply of the answer is sent. The front (the number of installs that led to the
+/// board of the answer) and the draw (a time and a random word) are noted in `served`, which must be empty at the
+/// start. If a request reports metrics, they are added to `book`. If the book has no room for them, the reply is a 503
+/// and the book is unchanged. Returns why the connection ended.
 pub fn serve_connection<D: Desk, L: Link, R: Draws>(
     alloc: Global,
     desk: &mut D,
@@ -33,15 +34,16 @@ pub fn serve_connection<D: Desk, L: Link, R: Draws>(
     // are not a request, and a 500, as far as the link allows, if memory ran out. The reports of the noted requests
     // were added to the book in order, except those for which it had no room. Suppose that each environment has a line
     // (a list of histories, one per epoch), and that each version on the board of an answer represents the line of its
-    // environment. Then what a token sees of that board is one revision of the line of the token's environment.
+    // environment. Then what a token sees of that board is the visible part of one revision of the line of the token's
+    // environment.
     ensures converses { Converses (Notes (D.board_at desk.new)) NotesNothing
         (link_view (L.left link.old) (L.sent link.old) (L.Source.faults link.old))
         (noted served.old book.old) result (noted served.new book.new) (length served.new)
         (link_view (L.left link.new) (L.sent link.new) (L.Source.faults link.new)) }
 
-    // The desk looked once for each note, and found the board of the note's front. If memory ran out, it may have
-    // looked once more. The fronts never fall. The draws of the notes were taken in order, and at most one more after
-    // them. The desk still knows each board that it knew before.
+    // For each note, the desk looked once (took the published board) and found the board of the note's front. If memory
+    // ran out, it may have looked once more. The fronts never fall. The draws of the notes were taken in order, and at
+    // most one more after them. The desk still knows each board that it knew before.
     ensures fronts { FrontsRise (D.front desk.old) served.new (D.front desk.new) }
     ensures looks { LooksFor (D.fronts desk.old) served.new result (D.fronts desk.new) }
     ensures drawn { DrawsAtLeast (R.coming draws.old) served.new (R.coming draws.new) }

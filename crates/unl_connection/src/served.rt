@@ -11,7 +11,8 @@ use unl_server::MOST_REQUESTS;
 /// The note of one answered request.
 #[derive(Clone, Copy, Debug, PartialEq, Eq)]
 pub struct ServedOne {
-    /// The number of installs that led to the board from which the request was answered.
+    /// The number of installs that led to the board (the published environments and tokens) from which the request was
+    /// answered.
     pub front: u64,
     /// The draw that the request was answered with: its time and its random word.
     pub draw: Draw,
@@ -48,7 +49,7 @@ impl Served {
         })
     }
 
-    /// The number of answered requests.
+    /// The number of notes in the list.
     pub fn len(&self) -> usize
         ensures { result ≡ length self.now }
     {

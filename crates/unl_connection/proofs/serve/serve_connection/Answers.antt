@@ -7,7 +7,8 @@ use Rattle.unl_connection.specs.Notes.{DrawsAtLeast, LooksFor, Notes, NotesNothi
 use Rattle.unl_connection.proofs.NotesLemmas.{ReflectsNotes, shows, reflects}
 use Rattle.unl_connection.proofs.serve.serve_connection.Goals as goal
 
--- `serve_requests` states its facts of the references in the handler afterwards. These are the references that were passed to it.
+-- Proves the clauses of `serve_connection` from those of `serve_requests`, which are about the values behind the references in the
+-- handler's final state. These references are the ones that were passed to `serve_connection`.
 pub returns-clause-converses : goal.returns-clause-converses
 returns-clause-converses g c =
     let after = c.serve_requests-conversed.new.state in
