@@ -1,4 +1,4 @@
--- Lemmas on the published board, and on the boards that a reader knows at each front.
+-- Lemmas on the published board, and on the boards that a reader knows at each front (the number of installs that led to the board).
 use Rattle.std.proofs.Common.{◌≡◌, ℕ, zero, suc, ◌≤◌, ◌+◌, ◌⊎◌, inl, inr, List, [], ◌∷◌, ◌++◌, length, take, fold, Bool, true, leb, Option, Some, None, is_some, refl, sym, ap, ◌∙◌, subst, arith, IfSome, unwrap_or}
 use Rattle.std.specs.Option.{option_map}
 use Rattle.std.proofs.lemmas.Bool.Decides.{nat_tests}

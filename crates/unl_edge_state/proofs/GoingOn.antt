@@ -1,4 +1,5 @@
--- Lemmas on orderly lists of installs.
+-- Lemmas on orderly lists of installs: each version in such a list results from the slot's previous version, if there is one, by one
+-- batch that applies.
 use Rattle.std.proofs.Common.{ℕ, zero, suc, ◌≤◌, List, [], ◌∷◌, ◌++◌, take, Option, Some, sym, subst, arith}
 use Rattle.unl_core.specs.declared.board.Board.{Board}
 use Rattle.unl_core.specs.declared.board.Slot.{Slot}

@@ -6,3 +6,4 @@ pub mod Continuing
 pub mod Writings
 pub mod Sent
 pub mod Represented
+pub mod FromLines

@@ -61,7 +61,7 @@ learned false (Some list) now after past_after orderly no_installs nothing same 
       next = inr (values_first now no_installs nothing ∙ ap (λ (o : Option BoardAt). o ∷ []) (sym same));
     })
 
--- A new reader is steady after it learned from a report.
+-- A new reader is steady (`IsSteady`) after it learned from a report.
 pub learns : (reader after : EdgeReader) (front : ℕ) (list : Option (Knowledge BoardAt Install)) → IsNewReader reader → SameOrigin (continuation_of after) (continuation_of reader)
     → continuation_of after ≡ continues_from front list (continuation_of reader) → past_of after ≡ remembers front list (past_of reader) (continuation_of reader) → IsSteady after
 learns reader after front list new origin next_is past_is =

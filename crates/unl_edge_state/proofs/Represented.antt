@@ -73,7 +73,7 @@ represented_at line sees slot board [] (suc k) represented = represented
 represented_at line sees slot board (what ∷ more) zero represented = represented.0
 represented_at line sees slot board (what ∷ more) (suc k) represented = represented_at line sees slot (installed what board) more k represented.1
 
--- The slot has a revision of the line on the board at each front.
+-- On the board that is known at each front, the slot has no version or a revision of the line.
 pub boards_represent : (line : List Era) (sees : Sees) (slot : ℕ) (known : Knowledge BoardAt Install) (opening : BoardAt) (k : ℕ) → known.opening ≡ Some opening
     → ContinuedFromOpening opening known → k ≤ length known.installs → AlwaysRepresented line sees slot known → IfSome (board_of known k) (SlotRepresented line sees slot)
 boards_represent line sees slot known opening k is start low represented =

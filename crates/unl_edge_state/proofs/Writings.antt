@@ -1,4 +1,4 @@
--- The places of a writer agree with what it published.
+-- The places of a writer (each has a slot's version, and whether the slot is held) agree with what the writer published.
 use Rattle.std.proofs.Common.{◌≡◌, ℕ, ◌<◌, ◌+◌, List, [], ◌∷◌, ◌++◌, length, Bool, true, false, Some, None, Option, IfSome, Result, Ok, Err, OnOk, OnErr, is_some, refl, sym, ap, ◌∙◌, subst, length-append, get_or, map, All, unwrap_or}
 use Rattle.std.proofs.Math.ListN.{set}
 use Rattle.std.specs.Prelude.{option_map, slice_set}

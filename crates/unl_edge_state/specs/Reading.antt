@@ -1,8 +1,8 @@
 -- What a reader of the published board knows: the opening board, and a list of the published installs, which the reader gets when it
 -- looks at the board. A reader can also learn a longer list from a report of the writer, without a look. The reader then continues from
 -- the learned list: this list replaces the reader's own, and the list of the next look starts with it. From that look on, the field
--- `before` of the reader's knowledge has the boards that the reader knew, before it continued from the learned list, after 0, 1, 2, ..
--- installs. The front of a board is the number of installs that led to it.
+-- `before` of the reader's knowledge has the boards after 0, 1, 2, .. installs, as the reader knew them before it continued from the
+-- learned list. The front of a board is the number of installs that led to it.
 use Rattle.std.specs.Prelude.{◌≡◌, ◌⊎◌, ℕ, ◌≤◌, true, List, [], ◌∷◌, ◌++◌, length, Option, Some, None, IfSome}
 use Rattle.std.specs.Prelude.{option_and_then, option_map, unwrap_or}
 use Rattle.unl_core.specs.declared.board.Board.{Board}
@@ -46,8 +46,8 @@ board_of known k = option_map (λ edition. edition.board) (value_at edited known
 abbrev pub ContinuedFromOpening : BoardAt → Knowledge BoardAt Install → Type 0
 ContinuedFromOpening opening known = (known.before ≡ []) ⊎ (known.before ≡ Some opening ∷ [])
 
--- A condition under which the board known at `front` is the opening board after the first `front` installs of the known list. Boards
--- that the reader knew before it continued from a learned list need not follow that list; only the opening board surely does. So the
+-- A condition under which the board known at `front` is the opening board after the first `front` installs of the known list. The boards
+-- that the reader knew before it continued from a learned list, other than the opening board, need not result from that list. So the
 -- condition is: the reader never continued from a learned list, or knew only the opening board when it did, or knew no board at `front`
 -- yet when it did.
 abbrev pub IsOfList : BoardAt → Knowledge BoardAt Install → ℕ → Type 0
@@ -62,7 +62,7 @@ pub record HasBegun (known : Knowledge BoardAt Install) (reader : EdgeReader) : 
 
 -- ---- readers that learned a list before their first look
 
--- The boards that the reader knew, after 0, 1, 2, .. installs, before it continued from a learned list. Empty if it never did.
+-- The boards after 0, 1, 2, .. installs, as the reader knew them before it continued from a learned list. Empty if it never did.
 abbrev pub earlier_of : EdgeReader → List (Option BoardAt)
 earlier_of reader = before_of edited (past_of reader) (continuation_of reader)
 
@@ -86,10 +86,10 @@ abbrev pub IsAfter : Option BoardAt → List Install → ℕ → Board → Type 
 IsAfter edition installs front board = IfSome edition (λ opening. (more : List Install) × (length (installs ++ more) ≡ front)
     × (board ≡ board_after opening.board (installs ++ more)))
 
--- The opening board of the list that the reader last saw is `edition`. If that list is at least as long as `installs`, the list starts
--- with `installs`. If `edition` is known, each board that the reader has seen at a front of at least `length installs` is the opening
--- board after a list that starts with `installs`. Before its last look, the reader never continued from a learned list, or only when it
--- knew no board but the opening board.
+-- The opening board of the list that the reader last saw is `edition`. If that list is at least as long as `installs`, the list starts with
+-- `installs`. If `edition` is known, each board that the reader knew at its last look, at a front of at least `length installs`, is the
+-- opening board after a list that starts with `installs`. Before its last look, the reader never continued from a learned list, or only
+-- when it knew no board but the opening board.
 pub record AnswersAfter (edition : Option BoardAt) (installs : List Install) (reader : EdgeReader) : Type 0 where
   pub opening : (seen_by reader).opening ≡ edition
   pub continued : IfSome edition (λ opening. ContinuedFromOpening opening (seen_by reader))
@@ -114,8 +114,8 @@ pub record IsNewReader (reader : EdgeReader) : Type 0 where
   pub before : (continuation_of reader).before ≡ []
 
 -- The publication is orderly, and the reader never continued from a learned list, or only when it knew no board but the opening board.
--- The field `seen` says so of the time before the reader's last look, the field `next` of the time up to now. The opening board is the
--- same at both times. `past` is `past_of` the reader, and `now` is `continuation_of` the reader.
+-- The field `seen` states the second condition for the time before the reader's last look, and `next` states it for the time up to now.
+-- The opening board is the same at both times. `past` is `past_of` the reader, and `now` is `continuation_of` the reader.
 pub record ReadsOneList (past : Option (Knowledge BoardAt Install)) (now : Knowledge BoardAt Install) : Type 0 where
   pub orderly : is_orderly now ≡ true
   pub opening : (known past now).opening ≡ now.opening
@@ -127,7 +127,8 @@ abbrev pub IsSteady : EdgeReader → Type 0
 IsSteady reader = ReadsOneList (past_of reader) (continuation_of reader)
 
 -- The list that the reader last saw is orderly: each version results from the slot's previous version, if there is one, by one batch
--- that applies. From each board that the reader has seen to one at a larger front, no slot gets an older version or becomes empty.
+-- that applies. From each board that the reader knew at its last look to one at a larger front, no slot gets an older version or becomes
+-- empty.
 pub record SeesInOrder (reader : EdgeReader) : Type 0 where
   pub list : ∥ KnowsOrderly (seen_by reader) ∥₁
   pub boards : NeverFalls (board_of (seen_by reader))

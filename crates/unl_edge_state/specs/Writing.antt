@@ -1,5 +1,6 @@
 -- What a writer of the board has published, and the places that it keeps. An install is one published change of the board. The place
--- of a slot has the slot's version, if any, and whether the slot is held. To a held slot, nothing applies until a hydration does.
+-- of a slot has the slot's version, if any, and whether the slot is held. Only a batch that begins with a hydration (an event that contains
+-- the whole state) applies to a held slot.
 use Rattle.std.specs.Prelude.{◌≡◌, ℕ, ◌<◌, [], ◌∷◌, List, length, Bool, true, ⊤, is_some, slice_set, Option, Some, false, IfSome}
 use Rattle.unl_core.specs.declared.board.Install.{Install}
 use Rattle.unl_core.specs.declared.board.Install.TheVariants.{Tokens, Env}

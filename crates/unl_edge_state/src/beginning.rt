@@ -17,9 +17,9 @@ use unl_core::{Board, Install, Slot, places_at};
 use unl_documents::{List, Memory, Text, TryClone};
 use unl_publication::{Ruled, Writer, new_reader};
 
-/// Creates a writer with the opening board `board`, and `readers` readers that know only this board. The writer takes
-/// any install, and waits for readers with `rt`. There is also room for `readers` lists that the writer has reported
-/// and no reader has learned yet.
+/// Creates a writer with the opening board `board`, and `readers` readers (1 to 16) that know only this board. The
+/// board must have at most eight slots, of different environments. The writer takes any install, and waits for readers
+/// with `rt`. There is also room for `readers` lists that the writer has reported and no reader has learned yet.
 ///
 /// # Errors
 ///
@@ -152,7 +152,7 @@ fn copy_of(alloc: Global, board: &Board) -> Result<Board, Memory>
     })
 }
 
-/// Copies slots.
+/// Copies slots. Each copy shares its slot's snapshot.
 fn copies_of(alloc: Global, slots: &[Slot]) -> Result<Vec<Slot>, Memory>
     ensures { IfOk result (λ copies. copies.items ≡ slots.now) }
 {

@@ -1,5 +1,5 @@
-//! Proofs that the reader and the writer of the edge's published boards can be sent to another thread. One proof search
-//! over all types that a board consists of times out, so the proof has steps. The first is for editions (an edition is
+//! Proofs that the reader and the writer of the edge's published boards can be sent to another thread. A single proof
+//! search over all the types inside a board times out, so the proof has steps. The first is for editions (an edition is
 //! a board, the number of installs that led to it, and whether its publication is orderly) and for installs. The next
 //! is for the readers and writers of editions in `left_right`, the crate that shares a value between a writer and
 //! several readers. Then follow the writer of `unl_publication`, and the reader and the writer of the edge.
@@ -69,8 +69,8 @@ fn seats_cross()
     send_of::<Seat<Edition, Knowledge<Edition, Install>, Ruled<Install>>>()
 }
 
-/// A reader can be sent to another thread. A caller that sends one calls this first, to have the fact. Does nothing at
-/// run time.
+/// A reader can be sent to another thread. A caller that sends a reader calls this function first, to have that fact
+/// in its proof. Does nothing at run time.
 pub fn readers_are_send()
     ensures { IsSend ReaderType.the_row }
 {
@@ -97,15 +97,15 @@ fn publishing_crosses()
     send_of::<Publishing<Edition, Install, Ruled<Install>>>()
 }
 
-/// The place of a slot is `Send`.
+/// The place of a slot (the slot's version, and whether the slot is held) is `Send`.
 fn place_send()
     ensures { IsSend PlaceType.the_row }
 {
     send_of::<Place>()
 }
 
-/// A writer can be sent to another thread, if its runtime `W`, with which it waits, is `Sync`. A caller that sends one
-/// calls this first, to have the fact. Does nothing at run time.
+/// A writer can be sent to another thread, if its runtime `W`, with which it waits, is `Sync`. A caller that sends a
+/// writer calls this function first, to have that fact in its proof. Does nothing at run time.
 pub fn writers_are_send<W: Wait + Sync>()
     ensures { (lifetime : NamedLft) → IsSend (writer_type lifetime W.row) }
 {

@@ -10,7 +10,8 @@ use unl_core::{Board, Install, install};
 use unl_documents::Memory;
 use unl_publication::Counted;
 
-/// A board, how many installs led to it, and whether its publication is orderly.
+/// A board, how many installs led to it, and whether its publication is orderly. In an orderly publication each version
+/// that is installed results from the slot's current version, if there is one, by one batch that applies.
 #[derive(Drop)]
 pub struct Edition {
     board: Board,
@@ -34,9 +35,8 @@ impl Model for Edition {
 }
 
 impl Edition {
-    /// Creates the opening edition, before any install. In an orderly publication each version that is installed
-    /// results from the slot's current version, if there is one, by one batch that applies. If `orderly` is false, any
-    /// install may come.
+    /// Creates the opening edition, before any install. If `orderly` is false, any install may come. The board must
+    /// have at most eight slots, of different environments.
     pub fn new(board: Board, orderly: bool) -> Edition
         requires { AreSlots board.slots }
         ensures { result ≡ opening_of orderly board }
@@ -48,7 +48,7 @@ impl Edition {
         }
     }
 
-    /// The board.
+    /// The board: the known tokens, and the current version of each environment.
     pub fn board(&self) -> &Board
         ensures board { result.now ≡ self.now.board }
         ensures slots { AreSlots result.now.slots }

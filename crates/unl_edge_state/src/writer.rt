@@ -1,4 +1,4 @@
-//! The writer of a board. The writer publishes installs on the board.
+//! The writer of a board, which publishes installs. An install is one change of the board.
 ghost use Rattle.std.specs.Prelude.{◌≡◌, ◌-◌, ◌^◌, ◌<◌, List, true, false, length, IfOk, IfNone, IfSome, IsErr, OnErr, OnOk};
 ghost use Rattle.std.specs.Prelude.{OnSome};
 ghost use Rattle.unl_core.specs.declared.board.Install.TheVariants.{Env, Tokens};
@@ -31,7 +31,8 @@ use unl_publication::{Counted, Publisher, Ruled, Writer};
 use unl_tokens::Book;
 
 /// Publishes installs on a board, and keeps the place of each slot: the slot's version, if any, and whether the slot is
-/// held (to a held slot, nothing applies until a hydration does). A writer isn't `Drop`: close it with `end`.
+/// held (only a batch that begins with a hydration, an event that contains the whole state, applies to a held slot). A
+/// writer isn't `Drop`: close it with `end`.
 pub struct EdgeWriter<'a, W: Wait> {
     publisher: Publisher<'a, W, Edition, Install, Ruled<Install>>,
     places: Vec<Place>,
@@ -79,8 +80,8 @@ impl<'a, W: Wait> EdgeWriter<'a, W> {
 
     /// Publishes an install and returns the new front: the number of installs published so far. If the publication is
     /// orderly, a version that is installed has to result from the slot's version on the published board, if there is
-    /// one, by one batch that applies. Whether a slot is held doesn't change. Waits for readers that still look at an
-    /// older board.
+    /// one, by one batch that applies. The slot of a version must exist, and fewer than 2^64 - 1 installs must have
+    /// been published. Whether a slot is held doesn't change. Waits for readers that still look at an older board.
     ///
     /// # Errors
     ///
@@ -132,7 +133,7 @@ impl<'a, W: Wait> EdgeWriter<'a, W> {
         publisher.end();
     }
 
-    /// Publishes a token book.
+    /// Publishes a token book. The places of the slots don't change.
     fn publish_book(&mut self, book: Shared<Book>) -> Result<u64, Memory>
         requires front { length self.old.known.installs < 2 ^ 64 - 1 }
         ensures published { OnOk result (self.new ≡ record (with_install (Tokens book) self.old) { closed = self.new.closed }) }
