@@ -26,7 +26,7 @@ use Rattle.unl_upstream.proofs.NamedLinks.{links_named}
 
 -- ---- the links
 
--- no link was handed out
+-- if the draws and the door's links are unchanged, no link was served
 pub serves_none : (state : KeptState) (before after : UpstreamFacing) → HasKept state.keeper → after.coming ≡ before.coming
     → after.door.given ≡ before.door.given → after.door.back ≡ before.door.back → after.door.links ≡ before.door.links
     → after.door.returned ≡ before.door.returned → ServesUpstreamLinks state state before after 0
@@ -56,7 +56,7 @@ listened_nowhere port could before door didnt listens =
 
 -- ---- the links after the lines
 
--- nothing was sent if memory ran out, or the keeper failed, while the lines were taken
+-- nothing was sent if taking the lines ended with `Memory`
 pub silent_lines_end : (opened : KeptState) (left left_after old new : Option (List ℕ))
     → TakesLines keeping (kept_lines_of opened) (Err line.Memory) left left_after old new → new ≡ old
 silent_lines_end opened left left_after old new takes = memory_is_silent keeping (kept_lines_of opened) left left_after old new silent takes
@@ -124,7 +124,7 @@ after_lines opened kept port last desk end left left_after before after sent has
 
 -- ---- a refused row
 
--- a row that is missing or isn't an accepted command
+-- reopening that failed with `BadRow` (a row that isn't an accepted command) failed because of the row at this place
 pub bad_row : (start reached : KeptState) (place : ℕ) (text : List ℕ) (fault : ReopenFault) → fault ≡ BadRow place text
     → IsSameKeeper start.keeper reached.keeper → Reopens start (Err fault) reached → RefusesUpstreamRow start place
 bad_row start reached place text fault is same reopens = record {

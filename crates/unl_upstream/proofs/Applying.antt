@@ -42,7 +42,7 @@ pub replies_ready : (command : Command) (up after : UpstreamState) (ready : Prep
 replies_ready command up after ready number reply is counted made published =
     ap (replied up) (applies_ready command up after ready number is counted published) ∙ (λ i. record { reply = sym made i; up = after })
 
--- the reply to a refused command names the refusal
+-- the reply to a command that cannot be prepared is the one for its refusal
 pub replies_refused_command : (command : Command) (up : UpstreamState) (refusal : CommandRefusal) (given : KeepCommandRefusal) (reply : Reply)
     → prepared command up ≡ Err refusal → given ≡ refused_as refusal → reply ≡ refused given
     → replied up (apply_command command up) ≡ record { reply = reply; up = up }

@@ -35,7 +35,7 @@ draws_none : (coming : Coming) → coming ≡ draws_after 0 coming
 draws_none None = refl
 draws_none (Some draws) = refl
 
--- taking one draw leaves the draws after one
+-- the upcoming draws after one was taken are `draws_after 1`
 draws_one : (coming : Coming) (draw : Draw) (coming_after : Coming) → TakesDraw coming draw coming_after → coming_after ≡ draws_after 1 coming
 draws_one None draw coming_after taken = taken
 draws_one (Some ([], last)) draw coming_after taken = taken.1

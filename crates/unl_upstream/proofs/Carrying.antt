@@ -47,7 +47,7 @@ keepable_is command before ready is =
 room : {T : Type 0} (count : ℕ) (x : T) → count < 10000000 → with_room count (Ok x) ≡ Ok x
 room count x low = let yes : nat_lt count most_rows ≡ true = lt-ltb count most_rows low in rw yes refl
 
--- at the maximum there is no room
+-- at the maximum or above it there is no room
 no_room : {T : Type 0} (count : ℕ) (x : T) → 10000000 ≤ count → with_room count (Ok x) ≡ Err (KeeperFull count)
 no_room count x high = let no : nat_lt count most_rows ≡ false = le-ltb count most_rows high in rw no refl
 
@@ -65,7 +65,7 @@ refused_for count command up refusal e is refused some =
     let here : prepared command up ≡ Err refusal = refused (λ failure. some (is ∙ ap refused_as failure)) in
     ap (with_room count) (refuses_command command up refusal here) ∙ ap Err (sym is)
 
--- a refusal of a command, converted and returned as the error of keeping it, is the one that `with_room` states
+-- if the error of keeping a command is the converted refusal of that command, other than `Memory`, it is the one that `with_room` states
 pub refused_by : {T : Type 0} (r : Result T KeepCommandRefusal) (count : ℕ) (command : Command) (up : UpstreamState) (refusal : CommandRefusal)
     → IsErrAnd r (λ e. e ≡ refused_as refusal) → (refusal ≢ command_refusal.Memory → prepared command up ≡ Err refusal)
     → IfErr r (λ e. e ≢ Memory → with_room count (apply_command command up) ≡ Err e)
@@ -82,7 +82,7 @@ refusal_is_no_fault command_refusal.NoSuchSegment is = cc
 refusal_is_no_fault (command_refusal.TooMany n) is = cc
 refusal_is_no_fault command_refusal.Memory is = cc
 
--- a keeper's fault is not a refusal of a command
+-- the result of `with_room` is never a fault of the keeper
 no_fault : (count : ℕ) (r : CommandResult AppliedCommand) → with_room count r ≡ Err KeeperFault → ⊥
 no_fault count (Ok obeyed) is = decided (nat_lt count most_rows) is
   where
@@ -159,7 +159,7 @@ accepted_kept command before obeyed is = decided (apply_command command before.u
 
 -- ---- what changed
 
--- only the acknowledged commands changed the upstream, all of them are accepted, and the keeper counts them
+-- if only the acknowledged commands changed the upstream, all of them are accepted, and the keeper counts them, `Moves` holds
 moves_by : (tried : List KeepAttempt) (before after : KeptState) → after.up ≡ after_commands (acknowledged tried) before.up
     → accepted (acknowledged tried) before.up ≡ acknowledged tried → after.keeper.count ≡ before.keeper.count + length (acknowledged tried)
     → Moves tried before after
@@ -245,7 +245,7 @@ carries_same one none no_faults as_before before after same =
       faults = omega (arith, no_faults);
     })
 
--- one more row, of an accepted command, still leads to the upstream
+-- the rows with one more, of an accepted command, lead to the upstream after that command
 results_further : (opening : UpstreamState) (text : List ℕ) (command : Command) (up : UpstreamState) (obeyed : AppliedCommand) → command_in text ≡ Ok command
     → apply_command command up ≡ Ok obeyed → (o : Option (List (List ℕ))) → IfSome o (λ texts. ResultIn opening texts up)
     → IfSome (option_map (λ list. list ++ text ∷ []) o) (λ texts. ResultIn opening texts obeyed.up)

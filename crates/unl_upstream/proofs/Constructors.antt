@@ -1,4 +1,4 @@
--- Results with different constructors differ, and equal ones have equal values. These are stated over plain variables, so that
+-- Results with different constructors differ, and equal results have equal values. The lemmas are stated over plain variables, so that
 -- their use at a large term is cheap to check.
 use Rattle.std.proofs.Common.{◌≡◌, Result, Ok, Err, IsOk}
 

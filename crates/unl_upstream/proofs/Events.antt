@@ -1,4 +1,4 @@
--- The events of commands, and the histories that these make.
+-- The events of commands, and the histories that consist of these events.
 use Rattle.std.proofs.Common.{◌≡◌, ℕ, ◌<◌, ◌≤◌, ◌+◌, List, [], ◌∷◌, ◌++◌, length, Bool, true, false, cond, Option, Some, None, Ok, Err, ap, refl, sym, subst, ◌∙◌, arith, length-append, inl}
 use Rattle.std.specs.Prelude.{◌==◌, ◌||◌, filter, nat_lt, ok_or}
 use Rattle.std.specs.List.{AllByRecursion as Every}
@@ -137,7 +137,7 @@ pub empty_is_history : (epoch : ℕ) → IsHistoryOf epoch [] (empty_at epoch)
 unfolding later up_to
 empty_is_history epoch = record { era = refl; represents = record { moment = inl refl; state = refl; base = omega arith; entries = refl }; number = refl }
 
--- no event of its history has a higher number
+-- no event of the version's history has a higher number than the version
 none_later : (epoch : ℕ) (commands : List Command) (v : EnvVersion) → IsHistoryOf epoch commands v → Every (λ x. number_of x ≤ v.number) (history_of commands)
 none_later epoch commands v is =
     subst (λ (n : ℕ). Every (λ (x : Event). number_of x ≤ n) (history_of commands)) (omega (arith, is.number)) (numbers_within 0 empty_state commands)
@@ -146,7 +146,7 @@ all_seen : (features : List Feature) → filter (λ feature. everything feature.
 all_seen [] = refl
 all_seen (feature ∷ features) = ap (λ (fs : List Feature). feature ∷ fs) (all_seen features)
 
--- its state is that after all events of its history
+-- the version's state is the state after all events of its history
 state_is : (epoch : ℕ) (commands : List Command) (v : EnvVersion) → IsHistoryOf epoch commands v → v.state ≡ fold_events (history_of commands) empty_state
 state_is epoch commands v is =
     let whole : State = revision (history_of commands) v.number in

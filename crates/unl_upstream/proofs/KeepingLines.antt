@@ -137,7 +137,7 @@ lines_keep start last read is =
 
 -- ---- the same lines without a keeper
 
--- the names of refusals are the same
+-- a refusal of a command has the same name with and without a keeper
 same_name : (refusal : CommandRefusal) → refusal_name (refused_as refusal) ≡ command_refusal_name refusal
 same_name plain.NoSuchEnvironment = refl
 same_name plain.NoSuchFeature = refl

@@ -127,7 +127,7 @@ keeps_on before after end count has reaches =
 no_other_failure : ◌≢◌ {A = Result ℕ KeepCommandRefusal} (Err KeeperFault) (Err Memory)
 no_other_failure is = cc
 
--- the reply to a command whose text was stored
+-- if a command's text was stored and the reply has the new version number, `RepliesTo` holds
 pub replies_kept : (command : Command) (before after : KeptState) (ready : Prepared) (text : List ℕ) (number made : ℕ) (reply : Reply)
     → IsPending command before ready text → made ≡ ready.number → reply ≡ numbered made → Puts ready text before (Ok number) after
     → RepliesTo command before reply after
@@ -138,7 +138,7 @@ replies_kept command before after ready text number made reply pending counted i
   is = is ∙ ap numbered (counted ∙ sym puts.is);
 }
 
--- the reply to a command at which the keeper failed
+-- if the keeper failed at a command and the reply is 503 `KeeperFault`, `RepliesTo` holds
 pub replies_failed : (command : Command) (before after : KeptState) (ready : Prepared) (text : List ℕ) (reply : Reply)
     → IsPending command before ready text → reply ≡ refused KeeperFault → Puts ready text before (Err fault.Fault) after
     → RepliesTo command before reply after
@@ -149,7 +149,7 @@ replies_failed command before after ready text reply pending is puts = record {
   is = is;
 }
 
--- the reply to a command that was refused
+-- if a command was refused and the reply is the one for the refusal, `RepliesTo` holds, and nothing changed
 pub replies_refused : (command : Command) (state : KeptState) (refusal : KeepCommandRefusal) (r : Result Reply Failure)
     → IfOk r (λ reply. reply ≡ refused refusal) → refusal ≢ Memory → (refusal ≢ Memory → keepable command state ≡ Err refusal)
     → IfOk r (λ reply. RepliesTo command state reply state)
@@ -168,7 +168,7 @@ same_still (Err e) x = refl
 
 -- ---- one answer
 
--- A request that gives no command is answered with the reply that it results in.
+-- if `command_or_reply_of` has a reply for a request, and no command, the request is answered with this reply
 pub replies_without_command : (before : KeptState) (q : Request) (draw : Draw) (reply : Reply) → command_or_reply_of before.up q draw ≡ variant.Reply reply → AnswersByKeeping before q draw reply before
 unfolding upstream_answer
 replies_without_command before q draw reply is =

@@ -1,4 +1,4 @@
--- The commands that links give to an upstream with its keeper, which are kept.
+-- The commands that links give to an upstream and that its keeper keeps.
 use Rattle.std.proofs.Common.{◌≡◌, ℕ, ◌++◌, ◌∙◌, List, Some, None, refl, sym, ap, subst, arith}
 use Rattle.std.specs.Prelude.{option_map}
 use Rattle.unl_keeper.specs.State.{HasKept}

@@ -1,4 +1,5 @@
--- An upstream that is reopened on a new keeper, and what the keeper's maker holds at the end.
+-- An upstream that is reopened on a new keeper, and the rows that the keeper's maker (which created the keeper and takes it back) holds at
+-- the end.
 use Rattle.std.proofs.Common.{◌≡◌, ◌≢◌, ◌≤◌, ◌∙◌, ℕ, zero, suc, List, [], ◌∷◌, ◌++◌, length, Option, Some, None, IfSome, Err, refl, sym, ap, subst, arith}
 use Rattle.std.specs.Prelude.{option_and_then, option_map, slice_get, unwrap_or}
 use Rattle.unl_base.specs.Faults.{Rose}

@@ -9,6 +9,7 @@ use Rattle.std.proofs.lemmas.Option.{none-some, same_Some}
 use Rattle.unl_core.specs.declared.board.Slot.{Slot}
 use Rattle.unl_core.specs.Board.{AreDifferent, AreSlots, is_named, names_of, same_text, place_in, snapshot_in, taking}
 use Rattle.unl_core.proofs.Same.{text_same}
+use Rattle.unl_core.proofs.Slots.{names_kept}
 use Rattle.unl_tokens.proofs.Same.{and_parts}
 use Rattle.unl_delta.specs.declared.version.EnvVersion.{EnvVersion}
 use Rattle.unl_delta.specs.Batch.{empty_at}
@@ -30,7 +31,7 @@ names_of-opening : (epoch : ℕ) (names : List (List ℕ)) → names_of (map (op
 names_of-opening epoch [] = refl
 names_of-opening epoch (x ∷ xs) = ap (λ names. x ∷ names) (names_of-opening epoch xs)
 
--- the initial slots of different names are valid slots
+-- the initial slots of at most eight different names are valid slots
 pub slots_opened : (epoch : ℕ) (slots : List Slot) (names : List (List ℕ)) → slots ≡ map (opening_slot epoch) names → length names ≤ 8 → AreDifferent names → AreSlots slots
 slots_opened epoch slots names are few different =
     subst AreSlots (sym are) (record {
@@ -125,15 +126,10 @@ all_within : (names : List (List ℕ)) → list_all is_name names ≡ true → A
 all_within [] is = All-nil IsName
 all_within (x ∷ xs) is = and_parts (is_name x) (list_all is_name xs) is (λ first others. All-cons IsName x xs (within x first) (all_within xs others))
 
--- slots with valid names have environments within the limits
+-- the environments of the initial slots of valid names have names within the limits
 pub named_opened : (epoch : ℕ) (slots : List Slot) (names : List (List ℕ)) → slots ≡ map (opening_slot epoch) names → list_all is_name names ≡ true → AreNamed slots
 named_opened epoch slots names are named =
     subst AreNamed (sym are) (subst (All IsName) (sym (names_of-opening epoch names)) (all_within names named))
-
-names_kept : (slot : ℕ) (v : EnvVersion) (slots : List Slot) → names_of (taking slot v slots) ≡ names_of slots
-names_kept slot v [] = refl
-names_kept zero v (x ∷ xs) = refl
-names_kept (suc slot) v (x ∷ xs) = ap (λ names. x.environment ∷ names) (names_kept slot v xs)
 
 -- publishing a version changes no name
 pub named_after : (slot : ℕ) (v : EnvVersion) (slots slots_after : List Slot) → AreNamed slots → slots_after ≡ taking slot v slots → AreNamed slots_after

@@ -10,7 +10,7 @@ use Rattle.unl_upstream.specs.declared.ends.UpstreamEnd.TheVariants.{OutOfMemory
 
 -- ---- the printed lines
 
--- the line printed once the door is closed: how many links were served
+-- the line printed once the door (a listener) is closed: how many links (connections) were served
 abbrev pub connections_line : ℕ → List ℕ
 connections_line served = codes "connections " ++ (decimal served ++ codes "\n")
 

@@ -1,4 +1,4 @@
--- The history of an environment of an upstream: the commands that were accepted for it.
+-- The history of an environment of an upstream: the events of the commands that were accepted for this environment.
 use Rattle.std.specs.Prelude.{◌≡◌, ℕ, ◌+◌, List, [], ◌∷◌, ◌++◌, length, filter, unwrap_or, Some, Ok, Err}
 use Rattle.unl_core.specs.Board.{same_text, snapshot_in}
 use Rattle.unl_delta.specs.declared.event.Event.{Event}

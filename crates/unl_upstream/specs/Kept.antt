@@ -194,8 +194,7 @@ AreLeft up failed [] = ⊤
 AreLeft up failed (text ∷ []) = IsLeft up failed text
 AreLeft up failed (text ∷ other ∷ texts) = ⊥
 
--- if the rows are observable, at most one follows the kept ones: that of a command that the upstream accepts and that is one of the failed
--- ones
+-- if the rows are observable, at most one row follows the kept ones, and its text is that of a failed command that the upstream accepts
 abbrev pub LeavesOne : KeptState → List Command → Type 0
 LeavesOne state failed = IfSome (past_rows state.keeper) (AreLeft state.up failed)
 
@@ -216,7 +215,7 @@ pub record Moves (tried : List KeepAttempt) (before after : KeptState) : Type 0 
 
 -- The properties of an upstream and its keeper that attempts to keep commands preserve, and what the attempts change.
 pub record Carries (tried : List KeepAttempt) (before after : KeptState) : Type 0 where
-  -- the upstream is still the initial one after the kept commands in order
+  -- the upstream is still the result of applying the kept commands in order to the initial one
   pub represents : (opening : UpstreamState) → IsAfterKept opening before → IsAfterKept opening after
   -- only the acknowledged commands changed the upstream, and they follow the earlier kept commands
   pub moves : Moves tried before after
@@ -237,7 +236,8 @@ pub record AttemptsPreserve (before after : KeptState) : Type 0 where
   pub some : SomeAttempts before after
   pub carries : Carries some.tried before after
 
--- any attempts to keep commands, with any faults of a keeper that has its kept rows (`HasKept`), preserve the properties in `Carries`
+-- if the keeper has at least as many rows as it keeps (`HasKept`), `Carries` holds for any attempts to keep commands, including those at
+-- which the keeper fails
 abbrev pub KeepingCarries : Type 0
 KeepingCarries =
     (tried : List KeepAttempt) (before after : KeptState) → HasKept before.keeper → AttemptsInOrder tried before after

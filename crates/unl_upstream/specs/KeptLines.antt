@@ -24,7 +24,7 @@ pub record KeptLines : Type 0 where
 abbrev pub kept_lines_of : KeptState → KeptLines
 kept_lines_of state = record { up = state.up; count = state.keeper.count; commands = kept_commands state.keeper }
 
--- the name of a refusal; empty for a fault of the keeper and out of memory, which refuse no line
+-- the name of a refusal; empty for a fault of the keeper and for running out of memory, which refuse no line
 abbrev pub refusal_name : KeepCommandRefusal → List ℕ
 refusal_name NoSuchEnvironment = codes "NoSuchEnvironment"
 refusal_name NoSuchFeature = codes "NoSuchFeature"

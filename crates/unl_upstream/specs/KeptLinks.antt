@@ -1,6 +1,5 @@
--- The links (connections) that a door accepts, served one after another by an upstream that stores its commands in a keeper. A
--- contract may say nothing about the links of a door or about the upcoming draws (times and random words): these are then not
--- observable, and their value here is `None`.
+-- The links (connections) that a door accepts, served one after another by an upstream that stores its commands in a keeper. If the
+-- links of a door or the upcoming draws (times and random words) are not observable, their value here is `None`.
 use Rattle.std.specs.Prelude.{◌≡◌, ℕ, ◌+◌, ◌⊎◌, List, [], ◌∷◌, ◌++◌, length, Result, ⊤}
 use Rattle.unl_base.specs.declared.Failed.{Failed}
 use Rattle.unl_server.specs.Handling.{Coming}
@@ -43,7 +42,7 @@ KeptLinking = Linking KeptState
 abbrev pub ServesKeptLinks : KeptLinking → KeptLinking → ℕ → Type 0
 ServesKeptLinks = HandsBack LinkServed
 
--- on success the returned number of links were served; if the door failed, some number of links were
+-- on success as many links were served as the result says; if the door failed, some number of links were
 abbrev pub ServesAllKeptLinks : Result ℕ Failed → KeptLinking → KeptLinking → Type 0
 ServesAllKeptLinks = ServesAllLinksBy LinkServed
 

@@ -58,8 +58,8 @@ tried_of None before q draw reply after by_command = []
 tried_of (Some command) before q draw reply after by_command = record { command = command; result = by_command.result } ∷ []
 
 -- A request is answered, and the attempt to keep its command, if it gives one, changes the upstream and the keeper only as `Carries`
--- states: among other things, the upstream is still the initial one after the kept commands in order. Unless the keeper failed at this
--- attempt, the reply is not 503 `KeeperFault`.
+-- states: among other things, the upstream is still the result of applying the kept commands in order to the initial one. Unless the
+-- keeper failed at this attempt, the reply is not 503 `KeeperFault`.
 pub record CarriesAnswer (before : KeptState) (q : Request) (draw : Draw) (reply : Reply) (after : KeptState) : Type 0 where
   pub gives : AnswersByKeeping before q draw reply after
   pub tried : List KeepAttempt

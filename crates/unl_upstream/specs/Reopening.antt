@@ -1,4 +1,5 @@
--- The result of reopening an upstream from its keeper.
+-- The result of reopening an upstream: the commands in the rows of its keeper (an append-only store with one command in each row) are
+-- applied to an initial upstream, in order.
 use Rattle.std.specs.Prelude.{◌≡◌, ◌≢◌, ◌≤◌, ℕ, ◌+◌, true, List, [], ◌∷◌, ◌++◌, length, take, slice_get, Option, Some, None}
 use Rattle.std.specs.Prelude.{option_and_then, option_map, Result, Ok, Err, IfSome, ⊤}
 use Rattle.unl_keeper.specs.declared.refusal.KeepRefusal.{KeepRefusal}
@@ -75,8 +76,8 @@ pub record IsSameKeeper (before after : KeeperState) : Type 0 where
   pub stays : before.opened ≡ true → after.opened ≡ true
   pub later : before.faults ≤ after.faults
 
--- The keeper is open, and all its rows are kept and were applied. The upstream is the initial one after the kept commands,
--- and no row follows these.
+-- The keeper is open, and all its rows are kept and were applied. The upstream is the result of applying the kept commands to the
+-- initial one, and no row follows the kept ones.
 pub record Reopened (before : KeptState) (count : ℕ) (after : KeptState) : Type 0 where
   pub opened : after.keeper.opened ≡ true
   pub counted : count ≡ after.keeper.count
@@ -119,9 +120,9 @@ pub record GivesBack
   pub commands : kept_commands reopened.keeper ≡ option_map (λ kept. kept ++ more) (kept_commands before.keeper)
   pub represents : IsAfterKept fresh reopened
 
--- If an upstream is the initial one after the kept commands, and at most one row of a failed put follows them, then reopening
--- the keeper with an initial upstream of the same slots restores the kept commands, and perhaps the command of the failed put. This
--- holds unless the keeper fails or memory runs out.
+-- If an upstream is the result of applying the kept commands to an initial one, and at most one row of a failed put follows the kept
+-- rows, then reopening the keeper with an initial upstream of the same slots restores the kept commands, and perhaps the command of
+-- the failed put. This holds unless the keeper fails or memory runs out.
 abbrev pub ReopeningGivesBack : Type 0
 ReopeningGivesBack = (opening fresh : UpstreamState) (before reopened : KeptState) (keeper : KeeperState) (failed : List Command)
     (rows : List (List ℕ)) (result : Result ℕ ReopenFault) → fresh.board.slots ≡ opening.board.slots

@@ -51,9 +51,9 @@ pub record ServesUpstreamLinks (state last : KeptState) (before after : Upstream
   pub serves_links : ServesKeptLinks (linking state before.coming before.door) (linking last after.coming after.door) served
   pub carries : AttemptsPreserve state last
 
--- How serving ends at a door that is to listen at this port. If the door failed, nothing was sent, and the door listened there once, or it
--- did not listen and no link was served. Otherwise it listened there once and was closed, and the connections line was sent: all of it, a
--- prefix if a write failed, or nothing if memory ran out.
+-- How serving ends at a door that is to listen at this port. If the door failed, nothing was sent; the door either listened there once, or
+-- it never listened and no link was served. Otherwise it listened there once and was closed, and the connections line was sent: all of it,
+-- a prefix if a write failed, or nothing if memory ran out.
 abbrev pub UpstreamLinksEnd : KeptState → ℕ → ServingEnd → KeptState → UpstreamFacing → UpstreamFacing → Type 0
 UpstreamLinksEnd state port Closed last before after =
     (served : ℕ) × ServesUpstreamLinks state last before after served × Sends before.sent (connections_line served) after.sent
@@ -67,10 +67,10 @@ UpstreamLinksEnd state port DoorFault last before after =
 UpstreamLinksEnd state port OutOfMemory last before after =
     (served : ℕ) × ServesUpstreamLinks state last before after served × (after.sent ≡ before.sent) × IsClosedAt port before.door after.door
 
--- The links that a door handed out, if its links are observable: the commands that each link added and the draws that it used, counted
--- from the opening state. The first link is served after the commands of the lines, and each link adds the commands of its requests
--- that were kept. So the keeper keeps all of these commands, after those that it had when it was opened. If the keeper never failed, no
--- reply is 503 `KeeperFault`.
+-- What the links of a door did, if they are observable: which commands each link added, and which draws (times and random words) it used.
+-- The commands are counted from `opened`, the state after reopening. The first link is served after the commands of the
+-- lines, and each link adds the commands of its requests that were kept. So the keeper keeps all of these commands, after those that it
+-- had when it was opened. If the keeper never failed, no reply is 503 `KeeperFault`.
 pub record NamesUpstreamLinks
     (opened : KeptState) (commands : List Command) (kept last : KeptState) (before after : UpstreamFacing) (served : ℕ)
     (links : List (List ℕ)) (returned : List (List ℕ × ℕ)) : Type 0 where
@@ -129,8 +129,8 @@ LinesEnd opened port (Links OutOfMemory) last left left_after before after =
 
 -- ---- the keeper
 
--- A keeper is given back to its maker. The maker then holds the keeper's kept rows, if these and the rows held before are observable. The
--- maker's fault count rose if the keeper ever failed.
+-- A keeper is given back to its maker, which created it. The maker then holds the keeper's kept rows, if these and the rows held before are
+-- observable. The maker's fault count rose if the keeper ever failed; if the count did not rise, the keeper never failed.
 pub record ComesBack (keeper : KeeperState) (before after : MakerState) : Type 0 where
   pub held : after.held ≡ option_and_then (λ _. kept_rows keeper) before.held
   pub rose : keeper.faults ≢ 0 → Rose before.faults after.faults

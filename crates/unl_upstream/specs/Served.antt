@@ -56,8 +56,8 @@ pub record LinkServedBy
   pub read_cause : end ≡ ReadFault → Rose 0 back.1
   pub write_cause : end ≡ WriteFault → Rose 0 back.1
 
--- On success, the door handed out the returned number of links, and all of them were returned to it. If the door failed, the
--- same holds for some number of links. If the door's links are observable, `LinkServed` holds for each of them.
+-- On success, the door handed out as many links as the result says, and all of them were given back to it. If the door failed,
+-- the same holds for some number of links. If the door's links are observable, `LinkServed` holds for each of them.
 abbrev pub ServesAllLinksBy :
     {S : Type 0} → (S → Coming → List ℕ → List ℕ × ℕ → S → Coming → Type 0) → Result ℕ Failed → Linking S → Linking S → Type 0
 ServesAllLinksBy LinkServed (Ok served) before after = HandsBack LinkServed before after served

@@ -28,7 +28,8 @@ use Rattle.unl_upstream.specs.declared.refusal.KeepCommandRefusal.{KeepCommandRe
 use Rattle.unl_upstream.specs.declared.refusal.KeepCommandRefusal.TheVariants as keep
 use Rattle.unl_upstream.specs.Command.{environment_of}
 
--- the board that requests are answered from, and the secret that allows a request to give commands
+-- the board (the versions of the environments and the known tokens) that requests are answered from, and the secret that allows a request
+-- to give commands
 pub record UpstreamState : Type 0 where
   pub board : Board
   pub secret : List ℕ
@@ -137,7 +138,7 @@ pub record IsNext (v : EnvVersion) (event : Event) : Type 0 where
 
 -- ---- the effect of a command on an upstream
 
--- the place of a slot that has this version and is not held (it does not wait for a hydration)
+-- the place of a slot that has this version and is not held (it does not wait for a hydration, an event with the whole state)
 abbrev pub place_with : EnvVersion → Place
 place_with v = record { version = Some v; held = false }
 

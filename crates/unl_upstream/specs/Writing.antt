@@ -1,4 +1,4 @@
--- The JSON form of a command. The keys of the object are in byte order.
+-- The JSON form of a command, chosen by this project. The keys of the object are in byte order.
 use Rattle.std.specs.Prelude.{ℕ, List, codes}
 use Rattle.serde_json.specs.Data.{Data, Members, no_members, object, string}
 use Rattle.serde_json.specs.Written.{compact_text}

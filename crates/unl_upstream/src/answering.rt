@@ -1,4 +1,4 @@
-//! Answers a request with an upstream: applies the request's command, or replies from the board.
+//! Answers a request with an upstream: applies the request's command, or replies from the upstream's current versions.
 ghost use Rattle.std.specs.Prelude.{◌≡◌, IfOk, OnErr, option_to_list};
 ghost use Rattle.serde_json.specs.Data.{object, no_members};
 ghost use Rattle.serde_json.specs.View.{view};
@@ -23,17 +23,18 @@ use std::alloc::Global;
 use unl_base::Draw;
 use unl_core::reply::{made, refuse, refuse_method};
 use unl_core::{answer, status};
+use unl_documents::kind::AnyWhole;
 use unl_documents::to_value::put;
 use unl_documents::{BadDocument, Field, List, Memory};
 use unl_http_api::{Reply, Request, Route, is_post};
 
 impl Upstream {
-    /// Answers a request. On the route `/commands`, a `POST` with the secret as its token and a command as its body
-    /// applies this command, and the reply is 200 with the new version number of the environment, or 404 or 409 if the
-    /// upstream refuses the command. Any other request on that route is refused: 405 for another method, 401 without a
-    /// token, 403 for another token, and 400 for a body that is no command. A refusal changes nothing. On all other
-    /// routes the reply is that of [`unl_core::answer`] for the upstream's board. A report of metrics is answered but
-    /// not stored.
+    /// Answers a request. On the route `/commands`, which this project defines, a `POST` with the secret as its token
+    /// and a command as its body applies this command, and the reply is 200 with the new version number of the
+    /// environment, or 404 or 409 if the upstream refuses the command. Any other request on that route is refused: 405
+    /// for another method, 401 without a token, 403 for another token, and 400 for a body that is no command. A refusal
+    /// changes nothing. On all other routes the reply is that of [`unl_core::answer`] for the upstream's board. A
+    /// report of metrics is answered but not stored.
     ///
     /// # Errors
     /// `Memory`: out of memory. The upstream is then unchanged.
@@ -157,11 +158,11 @@ fn number_object(alloc: Global, number: u64) -> Result<Value, Memory>
     ensures { IfOk result (λ v. view v ≡ object (with field.Number (count number) no_members)) }
 {
     let mut members = Map::new(alloc);
-    put(&mut members, alloc, Field::Number, &number)?;
+    put::<AnyWhole>(&mut members, alloc, Field::Number, &number)?;
     Ok(Value::Object(members))
 }
 
-/// Returns the reply to a command that is refused or not kept: 404, 409 or 503 with the name of the refusal.
+/// Returns the reply to a command that is refused or not stored: 404, 409 or 503 with the name of the refusal.
 /// The name for `KeeperFull` is `TooMany`. For `Memory` there is no reply, and `Memory` is returned as the error.
 pub(crate) fn refused(alloc: Global, refusal: KeepCommandRefusal) -> Result<Reply, Memory>
     ensures { IfOk result (λ reply. reply ≡ refused refusal) }

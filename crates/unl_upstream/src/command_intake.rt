@@ -1,5 +1,5 @@
-//! Takes the commands in the lines of an upstream's input. Each accepted command is stored by the upstream's keeper (an
-//! append-only store of commands) before it is published.
+//! Takes the commands in the lines of an upstream's input. Each accepted command is stored by the upstream's keeper (a
+//! store of texts in numbered rows) before it is published.
 ghost use Rattle.std.specs.Prelude.{◌≡◌};
 ghost use Rattle.unl_input.specs.Taking.{TakesLine};
 ghost use Rattle.unl_upstream.specs.Command.{IsValidCommand};

@@ -18,10 +18,10 @@ use unl_delta::keyed::find_in_chunks;
 use unl_delta::{EnvVersion, Event};
 use unl_documents::{Feature, Segment, Shared, Text, TryClone};
 
-/// The maximum number of features in an environment.
+/// The maximum number of features in an environment, chosen by this project.
 const MOST_FEATURES: usize = 10_000;
 
-/// The maximum number of segments in an environment.
+/// The maximum number of segments in an environment, chosen by this project.
 const MOST_SEGMENTS: usize = 1_000;
 
 /// Returns the event of a command at a version. The event's number is one above the version's.

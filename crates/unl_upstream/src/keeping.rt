@@ -1,4 +1,5 @@
-//! Keeping a command: storing its text with a keeper, and then publishing the new version of its environment.
+//! Keeping a command: storing its text with a keeper (a store of texts in numbered rows), and then publishing the new
+//! version of its environment.
 ghost use Rattle.std.specs.Prelude.{◌≡◌, ◌≢◌, ◌<◌, true, [], ◌∷◌, Err, IfOk, IfErr, OnOk};
 ghost use Rattle.unl_upstream.specs.Command.{IsValidCommand};
 ghost use Rattle.unl_upstream.specs.Kept.{Carries, IsPending, KeepsCommand, Puts, kept_state, with_room};
@@ -14,7 +15,7 @@ use std::alloc::Global;
 use unl_documents::{Memory, Text};
 use unl_keeper::{KeepRefusal, Keeper};
 
-/// The maximum number of commands that a keeper keeps.
+/// The maximum number of commands that a keeper keeps, chosen by this project.
 const MOST_ROWS: u64 = 10_000_000;
 
 /// An accepted command for which the keeper has room: the prepared command, and the text to store.
@@ -49,7 +50,7 @@ pub fn keep<K: Keeper>(
     keep_one(alloc, up, keeper, command)
 }
 
-/// Keeps a command. [`keep`] adds the clause about what this preserves.
+/// Keeps a command. [`keep`] adds the clause about what every attempt to keep a command preserves.
 #[tactic(auto, using(crate::proofs::Carrying::refuses))]
 fn keep_one<K: Keeper>(
     alloc: Global,

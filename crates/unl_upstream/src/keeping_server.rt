@@ -43,7 +43,7 @@ pub fn answer_kept<K: Keeper>(
     answer_one(alloc, up, keeper, request, draw)
 }
 
-/// Answers a request. [`answer_kept`] adds the clauses about what this preserves.
+/// Answers a request. The clause `answers` of [`answer_kept`] adds what an attempt to keep a command preserves.
 fn answer_one<K: Keeper>(
     alloc: Global,
     up: &mut Upstream,

@@ -13,10 +13,15 @@ use unl_documents::document::{Document, Object, read_document};
 use unl_documents::keys::required;
 use unl_documents::kind::{AnyText, AnyWhole, Name};
 use unl_documents::parsing::read_json;
-use unl_documents::{BadDocument, Feature, Field, Segment};
+use unl_documents::{BadDocument, FeatureJson, Field, SegmentJson};
 
-impl Document for Command {
+/// How a command is read from a JSON object.
+struct CommandJson;
+
+impl Document for CommandJson {
     ghost use Rattle.unl_upstream.specs.Command.{command_of, IsValidCommand};
+
+    type Out = Command;
 
     ghost reads_object = { command_of };
 
@@ -51,7 +56,7 @@ fn put_feature(alloc: Global, value: &Value) -> Result<Command, BadDocument>
     ensures valid { IfOk result IsValidCommand }
 {
     let environment = required::<Name>(alloc, Field::Environment, value)?;
-    let feature = required::<Object<Feature>>(alloc, Field::Feature, value)?;
+    let feature = required::<Object<FeatureJson>>(alloc, Field::Feature, value)?;
     Ok(Command::PutFeature {
         environment,
         feature,
@@ -76,7 +81,7 @@ fn put_segment(alloc: Global, value: &Value) -> Result<Command, BadDocument>
     ensures valid { IfOk result IsValidCommand }
 {
     let environment = required::<Name>(alloc, Field::Environment, value)?;
-    let segment = required::<Object<Segment>>(alloc, Field::Segment, value)?;
+    let segment = required::<Object<SegmentJson>>(alloc, Field::Segment, value)?;
     Ok(Command::PutSegment {
         environment,
         segment,
@@ -104,7 +109,7 @@ pub fn read_command(alloc: Global, value: &Value) -> Result<Command, BadDocument
     ensures gives { Gives result (document command_of (view value.now)) }
     ensures valid { IfOk result IsValidCommand }
 {
-    read_document(alloc, value)
+    read_document::<CommandJson>(alloc, value)
 }
 
 /// Reads a command from the JSON bytes of a request body, of a kept row or of a line, as [`read_command`] does.

@@ -11,8 +11,9 @@ use unl_core::{Install, Slot};
 use unl_delta::{Batch, Event, Place};
 use unl_documents::{List, Memory, Shared};
 
-/// A prepared command that is not yet published: the index of its environment's slot, the new version number, and the
-/// new version. Contracts also see the slots that the command was prepared from. These take no space at run time.
+/// A prepared command that is not yet published: the index of its environment's slot (an upstream has a slot for each
+/// environment), the new version number, and the new version. Contracts also see the slots that the command was
+/// prepared from. The copy of these slots takes no space at run time.
 #[derive(Drop)]
 pub struct Ready {
     slot: usize,

@@ -21,7 +21,7 @@ pub enum CommandRefusal {
     #[error("there is no such segment")]
     NoSuchSegment,
     /// The name or id is new and the environment is full, at 10,000 features or 1,000 segments: carries that count. Or
-    /// the environment's version number is the last one, 2^64 - 1: carries that number.
+    /// the environment's version number is the last one, 2^64 - 1: carries that number. This project chose the limits.
     #[error("there are {0} already")]
     TooMany(u64),
     /// Out of memory.
@@ -58,11 +58,11 @@ pub enum KeepCommandRefusal {
     /// The segment to remove does not exist.
     #[error("there is no such segment")]
     NoSuchSegment,
-    /// The environment is full, or its version number is the last one: carries the count or the number, as in
-    /// [`CommandRefusal::TooMany`].
+    /// The name or id is new and the environment is full: carries the count of its features or segments. Or the
+    /// environment's version number is the last one, 2^64 - 1: carries that number.
     #[error("there are {0} already")]
     TooMany(u64),
-    /// The keeper keeps 10,000,000 commands or more: carries their count.
+    /// The keeper keeps 10,000,000 commands (a limit chosen by this project) or more: carries their count.
     #[error("{0} commands are kept already")]
     KeeperFull(u64),
     /// The keeper failed, and incremented its fault count.

@@ -48,8 +48,8 @@ impl From<KeepRefusal> for ReopenFault {
 ///
 /// # Errors
 /// `BadRow`: the text of a row is no command, or its command is refused. `NoRow`: the keeper returned no text for a
-/// row. `Fault`: the keeper failed and incremented its fault count. `Memory`: out of memory. On any of these at a row,
-/// the upstream has applied the rows before that row.
+/// row. `Fault`: the keeper failed and incremented its fault count. `Memory`: out of memory. If the error occurs at a
+/// row, the upstream has applied the rows before that row.
 pub fn reopen<K: Keeper>(
     alloc: Global,
     up: &mut Upstream,

@@ -45,8 +45,8 @@ impl Model for Upstream {
 
 impl Upstream {
     /// Creates an upstream of up to eight environments with different, valid names. Each environment is empty, at
-    /// number 0 of the epoch. `boot` distinguishes this run of the program from others. `book` is the list of tokens
-    /// that requests may use, and `secret` the token that allows a request to give commands.
+    /// version number 0 of `epoch`. `boot` distinguishes this run of the program from others. `book` is the list of
+    /// tokens that requests may use, and `secret` the token that allows a request to give commands.
     ///
     /// An upstream that lost its state must be created with a higher epoch than before. Otherwise its clients may have
     /// versions with higher numbers, and ignore the new versions.

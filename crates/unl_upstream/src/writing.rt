@@ -9,14 +9,18 @@ ghost use Rattle.unl_upstream.specs.Writing.{HasNames, command_data, command_tex
 use crate::command::Command;
 use serde_json::{Map, Value};
 use std::alloc::Global;
-use unl_documents::to_value::{ToValue, put, put_value};
-use unl_documents::{Feature, Field, Memory, Segment, Text};
+use unl_documents::kind::{AnyText, AnyWhole};
+use unl_documents::to_value::{put, put_value};
+use unl_documents::{Feature, FeatureJson, Field, Memory, Segment, SegmentJson, Text};
 
 /// Writes a command as a JSON object with the keys `command` and `environment`, and one of `feature`, `name`, `segment`
 /// and `id`.
 ///
 /// [`read_command`](crate::read_command) reads the same command back if the feature or segment in it is valid, and the
-/// environment and the name of a removed feature are valid names.
+/// environment and the name of a removed feature are valid names. The JSON form is chosen by this project.
+///
+/// # Errors
+/// `Memory`: out of memory.
 #[tactic(auto, using(crate::proofs::Written::written_back))]
 pub fn write_command(alloc: Global, command: &Command) -> Result<Value, Memory>
     ensures written { IfOk result (λ value. view value ≡ command_data command.now) }
@@ -65,7 +69,7 @@ fn put_head(
     ensures { OnOk result (members_view members.new.entries
         ≡ with_head word.now environment.now (members_view members.old.entries)) }
 {
-    put(members, alloc, Field::Environment, environment)?;
+    put::<AnyText>(members, alloc, Field::Environment, environment)?;
     put_value(
         members,
         alloc,
@@ -80,7 +84,7 @@ fn put_feature(alloc: Global, environment: &Text, feature: &Feature) -> Result<V
     ensures { IfOk result (λ value. view value ≡ command_data (command.PutFeature environment.now feature.now)) }
 {
     let mut members = Map::new(alloc);
-    put(&mut members, alloc, Field::Feature, feature)?;
+    put::<FeatureJson>(&mut members, alloc, Field::Feature, feature)?;
     put_head(&mut members, alloc, "put-feature", environment)?;
     Ok(Value::Object(members))
 }
@@ -91,7 +95,7 @@ fn remove_feature(alloc: Global, environment: &Text, name: &Text) -> Result<Valu
     ensures { IfOk result (λ value. view value ≡ command_data (command.RemoveFeature environment.now name.now)) }
 {
     let mut members = Map::new(alloc);
-    put(&mut members, alloc, Field::Name, name)?;
+    put::<AnyText>(&mut members, alloc, Field::Name, name)?;
     put_head(&mut members, alloc, "remove-feature", environment)?;
     Ok(Value::Object(members))
 }
@@ -102,7 +106,7 @@ fn put_segment(alloc: Global, environment: &Text, segment: &Segment) -> Result<V
     ensures { IfOk result (λ value. view value ≡ command_data (command.PutSegment environment.now segment.now)) }
 {
     let mut members = Map::new(alloc);
-    put(&mut members, alloc, Field::Segment, segment)?;
+    put::<SegmentJson>(&mut members, alloc, Field::Segment, segment)?;
     put_head(&mut members, alloc, "put-segment", environment)?;
     Ok(Value::Object(members))
 }
@@ -113,7 +117,7 @@ fn remove_segment(alloc: Global, environment: &Text, id: u64) -> Result<Value, M
     ensures { IfOk result (λ value. view value ≡ command_data (command.RemoveSegment environment.now id)) }
 {
     let mut members = Map::new(alloc);
-    put(&mut members, alloc, Field::Id, &id)?;
+    put::<AnyWhole>(&mut members, alloc, Field::Id, &id)?;
     put_head(&mut members, alloc, "remove-segment", environment)?;
     Ok(Value::Object(members))
 }

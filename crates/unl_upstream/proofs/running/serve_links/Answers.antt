@@ -27,7 +27,7 @@ returns-then-is_err-clause-ends g c =
       refl,
     )
 
--- the count was printed, in full, in part or not at all
+-- the next three lemmas: the count of served links was printed, writing it failed, or memory ran out
 pub returns-in-Ok-print_connections-clause-ends : goal.returns-in-Ok-print_connections-clause-ends
 returns-in-Ok-print_connections-clause-ends g c = (c.in-Ok.served, search rules, search rules, search rules)
 
