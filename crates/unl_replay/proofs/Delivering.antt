@@ -1,4 +1,5 @@
--- Properties of the answered lines of a replay.
+-- Lemmas about the answered lines of a replay (the input lines before the first refused line). No line replaces an environment's version by
+-- an older one. If all batches were sent from histories of the environments, each request is answered from revisions in these histories.
 use Rattle.std.proofs.Common.{◌≡◌, ℕ, ◌+◌, ◌≤◌, Bool, true, false, cond, List, [], ◌∷◌, ◌++◌, length, take, Option, Result, Ok, Err, IfOk, refl, sym, ap, ◌∙◌, subst, arith, append-nil}
 use Rattle.std.specs.List.{AllByRecursion, count_by}
 use Rattle.std.specs.Prelude.{codes, ok_or}
@@ -61,7 +62,7 @@ read_answered : (k : ℕ) (b : ReplayState) (r : LineReading Data) → IfOk (and
 read_answered k b (Ok line) = object_answered k b line (documented (required any_text field.Op line))
 read_answered k b (Err e) = tt
 
--- the effect of a line with an ask is the answer to its request
+-- the effect of a line with an ask (a request, and the draw to answer it with) is the answer to that request
 answered : (k : ℕ) (b : ReplayState) (line : List ℕ) → IfOk (asked line) (λ ask. answer_read k b line ≡ Ok (put_ask k b ask))
 unfolding asked answer_read
 answered k b line = read_answered k b (ok_or (object_in line) (Document NotJson))
@@ -111,7 +112,7 @@ delivered bytes histories are sent = asks_from histories 1 empty_replay (lines b
 
 -- ---- answered lines
 
--- if a line that is not refused leaves a state with `P`, the state after a line that was answered has `P`
+-- if `P` holds for the state after the line unless the line is refused, it holds for the state after a line that was answered
 after_line : (P : ReplayState → Type 0) (k : ℕ) (b after : ReplayState) (line text : List ℕ)
     → IfOk (take_line line_answer k b line) (λ (taken : Taken ReplayState). P taken.desk)
     → take_line line_answer k b line ≡ Ok (record { text = text; desk = after }) → P after
@@ -128,7 +129,7 @@ same_effect : (x y : LineEffect) (r : LineReading LineEffect) → r ≡ Ok x →
 same_effect x y r one two =
     ap (effect_or x) (subst (λ (o : LineReading LineEffect). refusing refusal_text o ≡ Ok y) one two)
 
--- an ask that was answered shows one revision
+-- the answer to an ask meets `AnswersRevision`: it is computed from a board on which each version is a revision in the histories
 answers_revision : (histories : Histories) (one : ReplayedLine) → DeskRepresents histories one.before.desk
     → take_line line_answer one.number one.before one.line ≡ Ok (record { text = one.text; desk = one.after })
     → IfOk (asked one.line) (AnswersRevision histories one)
@@ -142,7 +143,7 @@ answers_revision histories one all is =
           (all_represented histories one.before.desk.board.slots one.before.desk.places all) shown;
     }) (answered one.number one.before one.line)
 
--- each ask among the lines shows one revision
+-- the answer to each ask among the lines meets `AnswersRevision`
 revisions_from : (histories : Histories) (k : ℕ) (b : ReplayState) (ones : List ReplayedLine) → AreLines histories → DeskRepresents histories b.desk
     → AreReplayed k b ones → AllSentFrom histories ones → AllAnswerRevisions histories ones
 revisions_from histories k b [] are all replayed sent = tt
@@ -160,7 +161,7 @@ anything : {A E : Type 0} (r : Result A E) → IfOk r (λ x. Unit {0})
 anything (Ok x) = tt
 anything (Err e) = tt
 
--- no environment's version falls along the lines
+-- no line replaces an environment's version by an older one
 never_falls_from : (environment : List ℕ) (k : ℕ) (b : ReplayState) (ones : List ReplayedLine) → Agrees b.desk → AreReplayed k b ones
     → AllByRecursion (λ one. IsNotBelow (version_in environment one.before) (version_in environment one.after)) ones
 never_falls_from environment k b [] agrees replayed = tt
@@ -188,7 +189,7 @@ replayed_from k b (line ∷ more) = replayed_by k b line (take_line line_answer 
 abbrev rest_of : ℕ → List (List ℕ) → ReplayState → List ReplayedLine
 rest_of k more after = replayed_from (k + 1) after more
 
--- the answered lines are the first of all lines
+-- the answered lines are a prefix of all lines
 are_first : (k : ℕ) (b : ReplayState) (ls : List (List ℕ)) → bytes_of (replayed_from k b ls) ≡ take (length (replayed_from k b ls)) ls
 are_first k b [] = refl
 are_first k b (line ∷ more) = by_result (take_line line_answer k b line) (λ after. are_first (k + 1) after more)
@@ -257,7 +258,7 @@ among_first bytes ls end old new are_first_lines sent = record {
   rising = λ environment. never_falls_from environment 1 empty_replay (replayed_from 1 empty_replay ls) tt (are_replayed 1 empty_replay ls);
 }
 
--- a statement about the bytes read and any that may follow holds of the bytes read, if none follow
+-- a statement that holds of the bytes read, whatever bytes may follow, holds of the bytes read alone
 of_read : (P : List ℕ → Type 0) (left left_after : Option (List ℕ)) (holds : HoldsOfRead left left_after P) → P holds.read
 of_read P left left_after holds = subst P (append-nil holds.read) (holds.holds [] (λ end. refl))
 

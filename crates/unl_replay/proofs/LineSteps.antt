@@ -1,4 +1,4 @@
--- The effect of a line on the desk, by its op.
+-- Lemmas: the effect of an input line on the desk (the board of versions, and the place kept for each of its slots), by the line's `op`.
 use Rattle.std.proofs.Common.{◌≡◌, ℕ, Bool, true, false, cond, List, Option, Some, None, Ok, Err, IfOk, refl, length, ltb}
 use Rattle.std.specs.Prelude.{codes, ok_or}
 use Rattle.std.specs.Str.{bytes_eq}
@@ -36,13 +36,14 @@ pub record Leads (d : DeskState) (Brings : Delivery → Type 0) (Holds : DeskSta
       → (verdict : Verdict) → verdict_of (place_of (installed_by (with_name environment d)) slot) batch ≡ verdict
       → Holds (after_verdict verdict slot batch (with_name environment d))
 
--- two readings that continue the same reading `r`: if `Q` of the second implies `P` of the first for each value of `r`, then also for `r`
+-- `f` and `g` both continue the reading `r`. If, for each value of `r`, `Q` of the result of `g` implies `P` of the result of `f`, the same
+-- implication holds for `r` continued by `g` and by `f`.
 and_both : {A B C : Type 0} (r : LineReading A) (f : A → LineReading B) (g : A → LineReading C) (P : B → Type 0) (Q : C → Type 0)
     → ((x : A) → IfOk (g x) Q → IfOk (f x) P) → IfOk (and_then r g) Q → IfOk (and_then r f) P
 and_both (Ok x) f g P Q step premise = step x premise
 and_both (Err e) f g P Q step premise = tt
 
--- a reading that continues another has `P` if it has `P` for each value of the other
+-- if `P` holds for the result of `f` for each value of `r`, it holds for the result of `r` continued by `f`
 and_more : {A B : Type 0} (r : LineReading A) (f : A → LineReading B) (P : B → Type 0) → ((x : A) → IfOk (f x) P) → IfOk (and_then r f) P
 and_more (Ok x) f P step = step x
 and_more (Err e) f P step = tt

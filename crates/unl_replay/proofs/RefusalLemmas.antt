@@ -1,4 +1,4 @@
--- Conversion of faults to refusals.
+-- Lemmas: the refusal of a line is the one that its fault is converted to. Nothing is claimed if memory ran out.
 use Rattle.std.proofs.Common.{◌≡◌, ◌≢◌, Result, Err, ap, ◌∙◌, sym, refl}
 use Rattle.unl_delta.specs.declared.fault.BadBatch.{BadBatch}
 use Rattle.unl_delta.specs.declared.fault.BadBatch.TheVariants as batch
@@ -15,28 +15,28 @@ use Rattle.unl_input.specs.declared.line.LineRefusal.TheVariants.{Cause}
 use Rattle.unl_input.specs.declared.line.LineRefusal.TheVariants as line
 use Rattle.unl_replay.specs.Refusals.{Causes, LineReading, refusal_text, refusing, refusal_for, refusal_for_batch, refusal_for_book}
 
--- a fault that is converted to a refusal; one of the faults is out of memory, for which nothing is claimed
+-- a reading with the fault `e` is refused with the refusal that `becomes` converts `e` to; nothing is claimed if `e` is `memory`
 forwarded : {A E : Type 0} (becomes : E → Refusal) (memory : E) → becomes memory ≡ Memory → (e : E) (refusal : Refusal) (reading : Result A E)
     → refusal ≡ becomes e → (e ≢ memory → reading ≡ Err e) → refusal ≢ Memory → refusing becomes reading ≡ Err refusal
 forwarded becomes memory none e refusal reading made known other =
     ap (refusing becomes) (known (λ same. other (made ∙ ap becomes same ∙ none))) ∙ ap Err (sym made)
 
--- a fault of a document that is converted to a refusal
+-- the same for a fault of a document
 pub refused : {A : Type 0} (e : BadDocument) (refusal : Refusal) (reading : Result A BadDocument) → refusal ≡ refusal_for e → (e ≢ document.Memory → reading ≡ Err e)
     → refusal ≢ Memory → refusing refusal_for reading ≡ Err refusal
 refused e refusal reading made known other = forwarded refusal_for document.Memory refl e refusal reading made known other
 
--- a fault of a batch that is converted to a refusal
+-- the same for a fault of a batch
 pub refused_batch : {A : Type 0} (e : BadBatch) (refusal : Refusal) (reading : Result A BadBatch) → refusal ≡ refusal_for_batch e → (e ≢ batch.Memory → reading ≡ Err e)
     → refusal ≢ Memory → refusing refusal_for_batch reading ≡ Err refusal
 refused_batch e refusal reading made known other = forwarded refusal_for_batch batch.Memory refl e refusal reading made known other
 
--- a fault of a token book that is converted to a refusal
+-- the same for a fault of a token book
 pub refused_book : {A : Type 0} (e : BadBook) (refusal : Refusal) (reading : Result A BadBook) → refusal ≡ refusal_for_book e → (e ≢ book.Memory → reading ≡ Err e)
     → refusal ≢ Memory → refusing refusal_for_book reading ≡ Err refusal
 refused_book e refusal reading made known other = forwarded refusal_for_book book.Memory refl e refusal reading made known other
 
--- a refused line, with the cause that is printed for it
+-- the line is refused with the printed text of its refusal as the cause; nothing is claimed if memory ran out
 pub refused_line : {A : Type 0} (r : LineRefusal) (refusal : Refusal) (stated : LineReading (Taken A)) (desk : A) → Causes r refusal
     → (refusal ≢ Memory → stated ≡ Err refusal) → TakesLine (Err r) desk (refusing refusal_text stated)
 refused_line (Cause text) refusal stated desk causes known = ap (refusing refusal_text) (known causes.0) ∙ ap Err (sym causes.1)

@@ -1,4 +1,4 @@
--- The effect of a batch whose verdict is known.
+-- Lemmas: the desk and the printed line after a batch, for each verdict on the batch (whether it is applied, or why not).
 use Rattle.std.proofs.Common.{◌≡◌, ℕ, Result, Ok, ap, subst, ◌∙◌}
 use Rattle.std.specs.Prelude.{Vec}
 use Rattle.std.specs.declared.alloc.Global.{Global}

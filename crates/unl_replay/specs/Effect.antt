@@ -6,7 +6,7 @@ use Rattle.unl_replay.specs.declared.refusal.Refusal.{Refusal}
 use Rattle.unl_replay.specs.declared.refusal.Refusal.TheVariants.{Memory}
 use Rattle.unl_replay.specs.Refusals.{LineReading}
 
--- The printed line and the state after it, or the refusal, are those of the specification, `stated`. Out of memory, nothing is claimed.
+-- The printed line and the state after it, or the refusal, are those of the specification, `stated`. If memory ran out, nothing is claimed.
 abbrev pub HasEffect : {D : Type 0} → Result (Vec ℕ Global) Refusal → D → LineReading (Taken D) → Type 0
 HasEffect (Ok line) after stated = stated ≡ Ok (record { text = line.items; desk = after })
 HasEffect (Err refusal) after stated = refusal ≢ Memory → stated ≡ Err refusal

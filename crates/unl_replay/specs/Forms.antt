@@ -1,4 +1,4 @@
--- How the JSON objects of lines are parsed.
+-- How the batches, feeds and asks (requests of clients) in the lines of a replay are parsed from JSON.
 use Rattle.std.specs.Prelude.{ℕ, List, [], codes, Option, unwrap_or, ok_or, if◌then◌else◌, false, Ok, Err}
 use Rattle.std.specs.Str.{bytes_eq}
 use Rattle.serde_json.specs.Data.{Data}
@@ -20,11 +20,11 @@ use Rattle.unl_replay.specs.Refusals.{LineReading, and_then, documented, refusin
 
 -- ---- batches and feeds
 
--- a value of any kind
+-- accepts a value of any kind, unchanged
 abbrev pub any_value : Field → Data → Reading Data
 any_value field value = Ok value
 
--- the batch of a line; `held` is the number of the environment's current version, if it has one, and a batch without `after` follows it
+-- the batch of a line; `held` is the number of the environment's current version, if it has one, and is used in place of a missing `after`
 abbrev pub batch_in : Option ℕ → Data → LineReading Batch
 batch_in held line = and_then (documented (required any_value field.Batch line)) (λ value. refusing refusal_for_batch (batch_of held value))
 

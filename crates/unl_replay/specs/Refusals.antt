@@ -1,4 +1,4 @@
--- The result of reading a line, and the text of refusals.
+-- The result of reading an input line of a replay, and the text that is printed when a line is refused.
 use Rattle.std.specs.Prelude.{◌≡◌, ◌≢◌, ⊤, ℕ, List, [], ◌++◌, codes, decimal, Result, Ok, Err}
 use Rattle.unl_delta.specs.declared.fault.BadBatch.{BadBatch}
 use Rattle.unl_delta.specs.declared.fault.BadBatch.TheVariants as batch
@@ -86,7 +86,7 @@ refusal_text NoNumber = codes "NoNumber"
 refusal_text TooManyEnvironments = codes "TooManyEnvironments"
 refusal_text Memory = []
 
--- If a cause is printed, the refusal is not `Memory`, and the cause is the refusal's text. Out of memory, nothing is claimed.
+-- If a cause is printed, the refusal is not `Memory`, and the cause is the refusal's text. If memory ran out, nothing is claimed.
 abbrev pub Causes : LineRefusal → Refusal → Type 0
 Causes (line.Cause text) refusal = (refusal ≢ Memory) × (text ≡ refusal_text refusal)
 Causes line.Memory refusal = ⊤

@@ -12,7 +12,7 @@ use unl_documents::kind::{AnyText, AnyWhole, Kind, Whole};
 use unl_documents::{BadDocument, Field, List, Text};
 use unl_http_api::{Bytes, Method, Request};
 
-/// The greatest time of a draw that is accepted, in milliseconds since 1970.
+/// The greatest time of a draw that is accepted, in milliseconds since 1970. This limit is chosen by this project.
 const LAST_MOMENT: u64 = 100_000_000_000_000;
 
 /// A request, and the draw to answer it with.
@@ -46,7 +46,7 @@ impl Kind for MethodWord {
     }
 }
 
-/// Returns the method with this name, or `WrongKind` if there is none.
+/// Returns the method named `GET` or `POST`, or `WrongKind` for any other name.
 fn method_by(field: Field, word: &str) -> Result<Method, BadDocument>
     ensures { result ≡ method_by field word.now }
 {

@@ -13,10 +13,10 @@ use std::alloc::Global;
 use unl_delta::{Batch, of_feed, read_batch};
 use unl_documents::document::Object;
 use unl_documents::keys::{required, value_at};
-use unl_documents::{BadDocument, Feed, Field};
+use unl_documents::{BadDocument, Feed, FeedJson, Field};
 
 /// Parses the batch of a line. `held` is the number of the environment's current version, if it has one. A batch
-/// without `after` follows that number.
+/// without `after` (the number that it continues from) is read as if its `after` were `held`.
 ///
 /// # Errors
 /// `Document` if the line has no batch, `Batch` if the batch can't be read, `Memory` if out of memory.
@@ -40,7 +40,7 @@ pub fn feed_in(alloc: Global, line: &Value) -> Result<Batch, Refusal>
     ensures gives { Gives Memory result (feed_in (view line.now)) }
     ensures valid { IfOk result IsValidBatch }
 {
-    let feed = required::<Object<Feed>>(alloc, Field::Feed, line)?;
+    let feed = required::<Object<FeedJson>>(alloc, Field::Feed, line)?;
     as_batch(alloc, feed)
 }
 

@@ -1,6 +1,6 @@
 //! The replay: processes an input with one JSON object on each line, and prints one line for each. An input line
 //! installs a book of tokens, applies a batch or a feed to an environment, asks for the reply to a client's request, or
-//! asks for the metrics of an environment.
+//! asks for the metrics of an environment. The replay ends at the first line that is refused, and prints why.
 #![tactic(auto)]
 
 mod ask;

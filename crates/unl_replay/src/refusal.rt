@@ -1,4 +1,5 @@
-//! The reasons for which a line is refused, and their text.
+//! The reasons for which a line of a replay is refused (apart from the limits on the length and the number of lines),
+//! and their text.
 ghost use Rattle.std.specs.Prelude.{◌≡◌, IfOk, string_bytes};
 ghost use Rattle.unl_replay.specs.Refusals.{batch_text, book_text, numbered, refusal_text};
 

@@ -109,7 +109,7 @@ fn print_and_record(
     Ok(ask_line(alloc, number, front, &reply)?)
 }
 
-/// Processes a line that asks for the metrics of an environment.
+/// Processes a line that asks for the metrics of an environment. A line without a valid environment is refused.
 #[tactic(auto, using(crate::proofs::RefusalLemmas::refused))]
 fn metrics_of_line(
     alloc: Global,
@@ -174,7 +174,7 @@ fn answer_op(
     }
 }
 
-/// Processes a line that holds a JSON object.
+/// Processes a line that holds a JSON object. An object without a text at its key `op` is refused.
 #[tactic(auto, using(crate::proofs::RefusalLemmas::refused))]
 fn answer_object(
     alloc: Global,

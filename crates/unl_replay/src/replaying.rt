@@ -1,4 +1,5 @@
-//! Replays a whole input, line by line.
+//! Replays a whole input: processes its lines one after another, to the first that is refused, and prints one line for
+//! each.
 ghost use Rattle.std.specs.Prelude.{◌≡◌, ◌<◌, ◌≤◌, IfOk, IsErrOf};
 ghost use Rattle.unl_base.specs.Faults.{Rose};
 ghost use Rattle.unl_input.specs.Whole.{TakesLines};
@@ -54,7 +55,9 @@ fn cause_of(alloc: Global, refusal: &Refusal) -> LineRefusal
     }
 }
 
-/// Processes the lines of an input, one after another, to its end, and prints one line for each.
+/// Processes the lines of an input, one after another, to its end or to the first line that is refused, and prints one
+/// line for each. An input has at most 1,000,000 lines, each of at most 16,777,216 bytes without its line feed; a line
+/// that exceeds either limit is refused.
 ///
 /// # Errors
 /// `Bad` if a line is refused (the cause is printed), `ReadFault` if the source fails, `WriteFault` if the sink fails,

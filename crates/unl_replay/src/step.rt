@@ -1,5 +1,5 @@
-//! Processes lines with tokens, batches and feeds. A feed is a whole state with its epoch and number, and is applied as a
-//! batch of one hydration. These lines change the desk, which has the current board: the tokens, and the version of
+//! Processes lines with tokens, batches and feeds. A feed is a whole state with its epoch and number, and is applied as
+//! a batch of one hydration. These lines change the desk, which has the current board: the tokens, and the version of
 //! each environment in its slot. In the functions that return a printed line, `number` is the number of the input line.
 ghost use Rattle.std.specs.Prelude.{◌≡◌, ◌+◌, ◌-◌, ◌^◌, ◌<◌, ◌≤◌, Ok, IfOk, string_bytes, length, decimal};
 ghost use Rattle.serde_json.specs.View.{view};
@@ -36,8 +36,8 @@ fn number_in(desk: &OneDesk, environment: &str) -> Option<u64>
     }
 }
 
-/// Returns the revision of a slot as text: its number, preceded by the epoch and a dot unless the epoch is 0. Returns a
-/// dash if the slot has no version.
+/// Returns the revision of a slot's version as text: its number, preceded by the epoch and a dot unless the epoch is 0.
+/// Returns a dash if the slot has no version.
 fn revision_text(alloc: Global, desk: &OneDesk, slot: usize) -> Result<String, AllocError>
     requires { slot < length desk.now.places }
     ensures { IfOk result (λ s. string_bytes s ≡ revision_text (revision_at slot desk.now)) }
@@ -93,7 +93,7 @@ fn verdict_line(
 }
 
 /// Publishes a book of tokens unless it equals the current one, and returns the line that says whether it was
-/// published.
+/// published. The only error is out of memory.
 #[tactic(auto, using(crate::proofs::Books::kept, crate::proofs::Books::taken))]
 fn put_tokens(
     alloc: Global,
