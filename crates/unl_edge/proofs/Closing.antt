@@ -36,7 +36,7 @@ once_err (Err d) e is x = x
 
 -- ---- the links
 
--- the links that a door handed out after it began to listen are those of the scene
+-- if the door began to listen and then handed out links, and nothing of the input was read, `HandsLinks` holds
 pub hands_links : (served port : ℕ) (could : Bool) (before after : Scene) (door : DoorState) → door ≡ listening_at port could before.door.state
     → HandsOut served door after.door.state → after.input.left ≡ before.input.left → HandsLinks served before after
 hands_links served port could before after door listens hands unread = record {
@@ -66,13 +66,13 @@ pub listened_at_last : (port : ℕ) (could : Bool) (before door after : DoorStat
 listened_at_last port could before door after did listens same =
     ap (λ (d : DoorState). d.ports) same ∙ listened_at port could before door did listens
 
--- the links came at the port where the door listened
+-- a door that listened at this port and then handed out links has listened once more, at this port
 pub port_of_links : (served port : ℕ) (could : Bool) (before door after : DoorState) → could ≡ true → door ≡ listening_at port could before
     → HandsOut served door after → ListenedAt port before after
 port_of_links served port could before door after did listens hands =
     ap (λ (d : DoorState). d.ports) hands.door ∙ listened_at port could before door did listens
 
--- no link was handed out
+-- if the door did no more than listen, and nothing of the input was read, no link was handed out
 pub hands_none : (port : ℕ) (could : Bool) (before after : Scene) → after.door.state ≡ listening_at port could before.door.state
     → after.input.left ≡ before.input.left → HandsLinks 0 before after
 hands_none port could before after listens unread = record {
@@ -89,7 +89,7 @@ pub closes_at : (served port : ℕ) (could : Bool) (before door after : DoorStat
 closes_at served port could before door after did listens hands closed =
     record { closed = closed; at = port_of_links served port could before door after did listens hands }
 
--- ---- the draw before
+-- ---- the first draw
 
 -- memory ran out before anything was handed out or sent
 pub stops_at_once : (port : ℕ) (before after middle : Scene) → before ≡ middle → after.door.state ≡ middle.door.state

@@ -1,4 +1,4 @@
--- How the command `upstream` ends, from the end of its run on a keeper.
+-- How the command `upstream` ends, from the end of its run on a keeper (the store of its commands).
 use Rattle.std.proofs.Common.{◌≡◌, ◌≢◌, ◌∙◌, inl, inr, ℕ, List, [], ◌&&◌, true, Option, Some, None, IfSome, Ok, Err, refl, sym, ap, subst}
 use Rattle.std.specs.List.{list_all}
 use Rattle.clap.proofs.WalkLemmas.{both}
@@ -60,7 +60,7 @@ ends_kept start port end made last before after is_new_keeper ends back = by_end
     by_end (Lines fault) ends = kept (Lines fault) ends
     by_end (Links end) ends = kept (Links end) ends
 
--- ---- the draw before
+-- ---- the first draw
 
 -- how an upstream ends after it took a draw
 pub upstream_runs : (words : UpstreamArguments) (end : UpstreamEnd) (before after : Scene) (start : UpstreamState) (coming : Coming)
@@ -88,20 +88,20 @@ environments_are_different environments are =
     let parts = both (has_count 1 8 environments) (list_all is_name environments && are_different environments) are in
     texts_differ environments (both (list_all is_name environments) (are_different environments) parts.1).1
 
--- ---- what determines the exit code
+-- ---- what determines the exit code if nothing fails and memory doesn't run out
 
 -- if a line is refused, the status is `Refused`
 pub refused_is : (ending : Ending) → IsRefused ending → ending_status ending ≡ status.Refused
 refused_is done is = absurd is
 refused_is (refused k cause) is = refl
 
--- a refused line determines the exit code, if the input is observable
+-- if a line of an observable input is refused, the exit code by the input is 3
 observable_decide : {D : Type 0} (outcome : List ℕ → LinesOutcome D) (left old new : Option (List ℕ))
     → IfSome left (λ bytes. IsRefusing (outcome bytes) old new) → IfSome left (λ bytes. 3 ≡ code_of (ending_status (outcome bytes).ending))
 observable_decide outcome None old new is = tt
 observable_decide outcome (Some bytes) old new is = ap code_of (sym (refused_is (outcome bytes).ending is.ending))
 
--- a refused line determines the exit code
+-- as `observable_decide`, from what holds of the bytes that were read
 pub refusing_decides : {D : Type 0} (outcome : List ℕ → LinesOutcome D) (left left_after old new : Option (List ℕ))
     → HoldsOfRead left left_after (λ bytes. IsRefusing (outcome bytes) old new)
     → IfSome left (λ bytes. 3 ≡ code_of (ending_status (outcome bytes).ending))
@@ -179,7 +179,7 @@ kept_decided start port made last (Links WriteFault) held left left_after before
 kept_decided start port made last (Links DoorFault) held left left_after before after is_new_keeper ends caused read write door keep memory = absurd (door caused)
 kept_decided start port made last (Links OutOfMemory) held left left_after before after is_new_keeper ends caused read write door keep memory = absurd (memory refl)
 
--- the lines determine the exit code of an upstream
+-- the lines and the keeper's rows determine the exit code of an upstream
 pub upstream_decided : {Read Write Door Keep : Type 0} (words : UpstreamArguments) (end : UpstreamEnd)
     (before after : Scene) → UpstreamRuns words end before after → Caused (upstream_status end) Read Write Door Keep
     → ¬ Read → ¬ Write → ¬ Door → ¬ Keep → code_of (upstream_status end) ≢ 6

@@ -63,7 +63,7 @@ at_memory (Ok (Load seed count)) scene = record { end = Err load.Memory; is = re
 at_memory (Err Bad) scene = record { end = words.OutOfMemory; is = refl; ends = refl }
 at_memory (Err Memory) scene = refl
 
--- what holds for the arguments as the code read them (`given`) holds for them as the definitions read them (`reading`)
+-- if `Ends` holds for the arguments as the code read them (`given`), it holds for them as the definitions read them (`reading`)
 pub ends_by : (given reading : WordsReading) (status : Status) (before after : Scene)
     → Gives Memory given reading → Ends given status before after → LeavesAlone given before after → Ends reading status before after
 ends_by (Ok x) reading status before after gives ends leaves = subst (λ w. Ends w status before after) (sym gives) ends
@@ -85,7 +85,7 @@ unchanged (Ok (Load seed count)) scene = refl
 unchanged (Err Bad) scene = refl
 unchanged (Err Memory) scene = refl
 
--- the same for the endpoints that are left unchanged
+-- as `ends_by`, for the endpoints that are left unchanged
 pub leaves_by : (given reading : WordsReading) (before after : Scene)
     → Gives Memory given reading → LeavesAlone given before after → LeavesAlone reading before after
 leaves_by (Ok x) reading before after gives leaves = subst (λ w. LeavesAlone w before after) (sym gives) leaves
@@ -96,7 +96,7 @@ leaves_by (Err Memory) reading before after gives leaves =
 
 -- ---- causes
 
--- the status of an exit code
+-- the status of an exit code (`KeeperFault` for all numbers above 7)
 status_of : ℕ → Status
 status_of n =
     cond (n == 0) Done (cond (n == 1) TestFailed (cond (n == 2) BadArguments (cond (n == 3) Refused (cond (n == 4) ReadFault (
@@ -129,7 +129,7 @@ all_causes status code before after is caused = record {
 
 -- ---- what determines the exit code if nothing fails and memory doesn't run out
 
--- the result of processing an input determines what follows from it
+-- if `number` is the code for the outcome that was found, it is the code for the outcome of the input's bytes, if they are observable
 decided_by : {T : Type 0} (reads : List ℕ → Reading T) (code : InputOutcome T → ℕ) (number : ℕ) (outcome : InputOutcome T) (left left_after : Option (List ℕ))
     → HasOutcome reads outcome left left_after → number ≡ code outcome → IfSome left (λ bytes. number ≡ code (input_outcome reads bytes))
 decided_by reads code number outcome left left_after comes is = at_each left (decides reads outcome left left_after comes)
@@ -197,14 +197,14 @@ explain_decided Read Write Door Keep (Err explain.ReadFault) left left_after old
 explain_decided Read Write Door Keep (Err explain.WriteFault) left left_after old new ends caused read write memory = absurd (write caused)
 explain_decided Read Write Door Keep (Err explain.Memory) left left_after old new ends caused read write memory = absurd (memory refl)
 
--- bad arguments end with status 2 unless something failed
+-- bad arguments end with exit code 2 unless the output failed or memory ran out
 bad_decided : (Read Write Door Keep : Type 0) (end : ArgumentsEnd) → Caused (arguments_status end) Read Write Door Keep → ¬ Write → code_of (arguments_status end) ≢ 6
     → code_of (arguments_status end) ≡ 2
 bad_decided Read Write Door Keep words.Bad caused write memory = refl
 bad_decided Read Write Door Keep words.WriteFault caused write memory = absurd (write caused)
 bad_decided Read Write Door Keep words.OutOfMemory caused write memory = absurd (memory refl)
 
--- an edge ends with status 0 unless something failed
+-- an edge ends with exit code 0 unless something failed or memory ran out
 edge_decided : (Read Write Door Keep : Type 0) (end : ServingEnd) → Caused (serving_status end) Read Write Door Keep → ¬ Write → ¬ Door
     → code_of (serving_status end) ≢ 6 → code_of (serving_status end) ≡ 0
 edge_decided Read Write Door Keep serving.Closed caused write door memory = refl
@@ -212,14 +212,14 @@ edge_decided Read Write Door Keep serving.WriteFault caused write door memory = 
 edge_decided Read Write Door Keep serving.DoorFault caused write door memory = absurd (door caused)
 edge_decided Read Write Door Keep serving.OutOfMemory caused write door memory = absurd (memory refl)
 
--- `follow` ends with status 0 unless something failed
+-- `follow` ends with exit code 0 unless the output failed or memory ran out
 follow_decided : (Read Write Door Keep : Type 0) (end : Result Unit FollowFault) → Caused (follow_status end) Read Write Door Keep → ¬ Write
     → code_of (follow_status end) ≢ 6 → code_of (follow_status end) ≡ 0
 follow_decided Read Write Door Keep (Ok u) caused write memory = refl
 follow_decided Read Write Door Keep (Err follow.WriteFault) caused write memory = absurd (write caused)
 follow_decided Read Write Door Keep (Err follow.Memory) caused write memory = absurd (memory refl)
 
--- a load ends with status 0 unless something failed
+-- a load ends with exit code 0 unless the output failed or memory ran out
 load_decided : (Read Write Door Keep : Type 0) (end : Result Unit LoadFault) → Caused (load_status end) Read Write Door Keep → ¬ Write
     → code_of (load_status end) ≢ 6 → code_of (load_status end) ≡ 0
 load_decided Read Write Door Keep (Ok u) caused write memory = refl

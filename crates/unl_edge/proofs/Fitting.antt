@@ -47,7 +47,7 @@ token_fits text is =
 
 -- ---- an address
 
--- a digit doesn't end a line
+-- a digit is neither a line end nor NUL
 digit_is_line_byte : (byte : ℕ) → is_ascii_digit byte ≡ true → is_line_byte byte ≡ true
 digit_is_line_byte byte is = grind (arith, nat_tests)
 
@@ -57,7 +57,7 @@ digits_are_line (byte ∷ text) are =
     let parts = both (is_ascii_digit byte) (list_all is_ascii_digit text) are in
     rw (digit_is_line_byte byte parts.0, digits_are_line text parts.1) refl
 
--- a port consists of digits
+-- a port consists of digits, so it has neither a line end nor NUL
 port_is_line : (text : List ℕ) → is_port text ≡ true → is_line text ≡ true
 unfolding number_within
 port_is_line text is = by_number (is_number text) refl is
@@ -119,11 +119,11 @@ all_fit (token ∷ tokens) are =
     let parts = both (is_token true token) (list_all (is_token true) tokens) are in
     All-cons (λ (t : List ℕ). IsTrue (fits_line t)) token tokens (token_fits token parts.0) (all_fit tokens parts.1)
 
--- there are at most eight tokens
+-- there are at most eight tokens for the upstream
 pub few_tokens : (tokens : List (List ℕ)) → are_upstream_tokens tokens ≡ true → length tokens ≤ 8
 few_tokens tokens are = (counted 1 8 tokens (both (has_count 1 8 tokens) (list_all (is_token true) tokens && are_different (map environment_of tokens)) are).0).1
 
--- each of an upstream's tokens fits in a line
+-- each of the tokens for the upstream fits in a line
 pub tokens_fit : (tokens : List (List ℕ)) → are_upstream_tokens tokens ≡ true → All (λ token. IsTrue (fits_line token)) tokens
 tokens_fit tokens are =
     let parts = both (has_count 1 8 tokens) (list_all (is_token true) tokens && are_different (map environment_of tokens)) are in
@@ -134,7 +134,7 @@ pub texts_differ : (texts : List (List ℕ)) → are_different texts ≡ true �
 texts_differ [] are = tt
 texts_differ (text ∷ texts) are = let parts = others_differ text texts are in (parts.0, texts_differ texts parts.1)
 
--- the environments of an upstream's tokens differ
+-- the environments of the tokens for the upstream differ
 pub names_differ : (tokens : List (List ℕ)) → are_upstream_tokens tokens ≡ true → AreDifferent (map environment_of tokens)
 names_differ tokens are =
     let parts = both (has_count 1 8 tokens) (list_all (is_token true) tokens && are_different (map environment_of tokens)) are in

@@ -1,4 +1,4 @@
--- The metrics that workers handed over are those that the poller's turns took and those that wait.
+-- The metrics that workers handed over are those that the poller's turns took and those that still wait in the queue.
 use Rattle.std.proofs.Common.{◌≡◌, ◌∙◌, ◌<◌, ◌+◌, ◌-◌, ◌^◌, ℕ, List, [], ◌∷◌, ◌++◌, length, map, Option, Result, Ok, Err}
 use Rattle.std.proofs.Common.{ap, append-nil, append_assoc, arith, refl, subst, sym}
 use Rattle.std.specs.Prelude.{All, IfOk, OnOk, flat_map}
@@ -31,7 +31,7 @@ use Rattle.unl_workers.specs.declared.worker.WorkerSlot.{WorkerSlot}
 
 -- ---- slots with new books
 
--- the receiver after one more part went to a sender
+-- If a receiver gives one more part (a share of the right to use the queue) to a sender, still only its number of parts has changed.
 pub less_parts : (first v w : Receiving) → v ≡ record first { parts = v.parts } → w ≡ record v { parts = v.parts - 1 }
     → w ≡ record first { parts = w.parts }
 less_parts first v w kept less = λ i. record {
@@ -41,7 +41,7 @@ less_parts first v w kept less = λ i. record {
   intake = (ap (λ (r : Receiving). r.intake) less ∙ ap (λ (r : Receiving). r.intake) kept) i;
 }
 
--- one more slot has a new book
+-- if each slot has a new book, so has each slot after one more slot with a new book was appended
 pub books_more : {W R : Type 0} (first now : Receiving) (pool_slots longer : List (WorkerSlot (EdgeLinkHandler W) R))
     (pool_slot : WorkerSlot (EdgeLinkHandler W) R) → now ≡ record first { parts = now.parts } → longer ≡ pool_slots ++ pool_slot ∷ []
     → All (λ pool_slot. HasNewBook first pool_slot.server) pool_slots → HasNewBook now pool_slot.server
@@ -63,7 +63,7 @@ all_new {W} {R} coming_of receiver (pool_slot ∷ pool_slots) books =
 
 -- ---- senders that are taken back
 
--- the receiver after one more sender was taken back
+-- if one more sender is taken back, still only the receiver's number of parts and its list of books handed over have changed
 pub more_parts : (first v w : Receiving) (parts : ℕ) (handed : List Book) → v ≡ record first { parts = v.parts; handed = v.handed }
     → w ≡ record v { parts = parts; handed = handed } → w ≡ record first { parts = w.parts; handed = w.handed }
 more_parts first v w parts handed kept more = λ i. record {
@@ -73,7 +73,7 @@ more_parts first v w parts handed kept more = λ i. record {
   intake = (ap (λ (r : Receiving). r.intake) more ∙ ap (λ (r : Receiving). r.intake) kept) i;
 }
 
--- the books that this sender handed over are added to those of the senders before
+-- if the books of the senders taken back so far and of those left are all books, this still holds after one more sender was taken back
 pub handed_more : {W R : Type 0} (handed now : List Book) (pool_slot : WorkerSlot (EdgeLinkHandler W) R)
     (before rest : List (WorkerSlot (EdgeLinkHandler W) R)) (all : List Book) → handed ++ flat_map handed_at before ≡ all
     → before ≡ pool_slot ∷ rest → now ≡ handed ++ handed_at pool_slot → now ++ flat_map handed_at rest ≡ all
@@ -82,7 +82,7 @@ handed_more {W} {R} handed now pool_slot before rest all so_far steps more =
     ∙ (append_assoc handed (handed_at pool_slot) (flat_map handed_at rest)
     ∙ (ap (λ (list : List (WorkerSlot (EdgeLinkHandler W) R)). handed ++ flat_map handed_at list) (sym steps) ∙ so_far))
 
--- all senders were taken back
+-- if all senders were taken back, the books that they handed over are those that were taken and those that wait
 pub counted_all : {W R : Type 0} (first last : Receiving) (rest all : List (WorkerSlot (EdgeLinkHandler W) R))
     → last ≡ record first { parts = last.parts; handed = last.handed } → last.handed ++ flat_map handed_at rest ≡ flat_map handed_at all
     → length rest ≡ 0 → ((waiting : List Book) × SameBooks last.handed (last.intake.taken ++ waiting))

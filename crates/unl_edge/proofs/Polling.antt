@@ -23,7 +23,7 @@ TurnEndsByResult result duty tags metrics installed peer after =
     → ByResult result (MakesTurn duty.known duty.upstream duty.slot_pollers) (StopsInTurn duty.known duty.upstream duty.slot_pollers)
     (poll_state installed tags metrics peer) after
 
--- metrics were taken, and then a turn was made
+-- if metrics were taken, and then a turn was made or stopped, `LaterTurn` holds
 pub later_made : (duty drained last : Duty) (installed installed_last : Installed) (peer peer_last : PeerView) (result : Result Unit Memory)
     (intake intake_after : Intake) → drained ≡ record duty { metrics = drained.metrics }
     → Merges duty.metrics intake drained.metrics intake_after → KeepsDuty drained last
@@ -61,7 +61,7 @@ work_on first middle last one two = record {
   upstream = two.upstream ∙ one.upstream;
 }
 
--- a later turn of a poller is one of any poller with the same fixed parameters
+-- a later turn of a poller is also a later turn of any poller with the same fixed parameters
 same_turn : (first now : Duty) (before after : Refreshing) → SameWork first now → LaterTurn now before after → LaterTurn first before after
 same_turn first now before after same turn =
     let moved : LaterTurn (record first { tags = now.tags; metrics = now.metrics }) before after =

@@ -1,4 +1,4 @@
--- A worker's desk and state are `Send` because their parts are.
+-- A worker's desk, which answers requests, and a worker's state are `Send` because their parts are.
 use denote.Param.Send.{IsSend, IsSync, sendable}
 use denote.Param.SendFields.{declared_send}
 use denote.RattleType.{RattleType}

@@ -160,7 +160,7 @@ same_service duty board begun edition workers readers peer peer_after door door_
     (serves (subst (λ (n : ℕ). 0 < n) (sym count) some))
 same_service duty board begun edition workers readers peer peer_after door door_after (Err fault) same opens count some serves = tt
 
--- the door served was the one that had just begun to listen
+-- the links that were served are those of the door after it began to listen at this port
 pub serves_at : (service : EdgeService) (port served : ℕ) (could : Bool) (peer peer_after : PeerView) (before door after : DoorState)
     → could ≡ true → door ≡ listening_at port could before → ServesEachLink service peer peer_after door after served
     → ServesEachLink service peer peer_after (listening_at port true before) after served

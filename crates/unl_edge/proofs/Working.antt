@@ -14,7 +14,9 @@ use Rattle.unl_edge.proofs.Answering.{Began, began, known_after, serves_after}
 use Rattle.unl_edge.specs.declared.link_handler.EdgeLinkHandler.{EdgeLinkHandler}
 use Rattle.unl_edge_state.specs.Editions.{BoardAt}
 use Rattle.unl_edge_state.specs.Reading.{AnswersAfter, StartsReader, IsNewReader, SeesInOrder, seen_by, learned_front_of}
+use Rattle.unl_edge_state.specs.Histories.{SeesRevisions}
 use Rattle.unl_edge_state.proofs.Looks.{sees_in_order}
+use Rattle.unl_edge_state.proofs.FromLines.{sees_revisions}
 use Rattle.unl_edge_state.specs.Writing.{Writing, installed_by}
 use Rattle.unl_edge.specs.Edges.{accepted_in}
 use Rattle.unl_edge.specs.Polling.{PollsOn, Refreshing, refreshing}
@@ -40,7 +42,7 @@ use Rattle.unl_workers.specs.declared.worker.WorkerSlot.{WorkerSlot}
 works_by : {W : Type 0} → ServerAndDraws (EdgeLinkHandler W) → EdgeWorker
 works_by serving = record { reader = serving.server.desk.reader; book = book_of serving.server; coming = serving.coming }
 
--- if `n` links were served, the worker served `n` links, and its reader still began with the same installs
+-- if a link handler served `n` links with a reader that began with installs, `WorkerServesLinks` and `Began` hold afterwards
 links_served : {W : Type 0} (edition : Option BoardAt) (installs : List Install) (n : ℕ) (before after : ServerAndDraws (EdgeLinkHandler W))
     → Began edition installs before.server.desk.reader → ServesMany ServesAt n before after
     → WorkerServesLinks edition installs n (works_by before) (works_by after) × Began edition installs after.server.desk.reader
@@ -53,7 +55,7 @@ links_served edition installs (suc n) before after start many =
     let last = serves_after edition installs (works_by many.0) (works_by after) one.link one.link_after earlier.1 one.served in
     ((works_by many.0, earlier.0, record { link = one.link; link_after = one.link_after; served = last.0 }), last.1)
 
--- the worker of a slot that served links, and the boards that its reader answers from after them
+-- the worker of a slot served some number of links (`Works`), and `AnswersAfter` holds of its reader afterwards
 served_links : {W R : Type 0} (coming_of : R → Coming) (edition : Option BoardAt) (installs : List Install)
     (before after : WorkerSlot (EdgeLinkHandler W) R) → Began edition installs before.server.desk.reader
     → ServesSlot ServesAt ReadsOnAt coming_of before after
@@ -64,7 +66,7 @@ served_links coming_of edition installs before after start attends =
     (serving after.server (coming_of after.draws)) start attends.served in
     ((after.links, links.0), known_after edition installs after.server.desk.reader links.1)
 
--- the workers of all slots, and the boards that their readers answer from after the links
+-- as `served_links`, for the workers of all slots
 pub all_served_links : {W R : Type 0} (coming_of : R → Coming) (known : Knowledge BoardAt Install) (before after : List (WorkerSlot (EdgeLinkHandler W) R))
     → All (λ pool_slot. HasLearned known pool_slot.server.desk.reader) before → AllZip (ServesSlot ServesAt ReadsOnAt coming_of) before after
     → AllZip (Works known.opening known.installs) (map (edge_worker coming_of) before) (map (edge_worker coming_of) after)
@@ -83,7 +85,7 @@ all_served_links {W} {R} coming_of known (first ∷ before) (last ∷ after) lea
           (map (edge_worker coming_of) after) one.1 others.1,
     )
 
--- what the readers of the slots have learned
+-- the readers of the slots have learned of at least all known installs
 pub all_learned : {W R : Type 0} (coming_of : R → Coming) (known : Knowledge BoardAt Install) (pool_slots : List (WorkerSlot (EdgeLinkHandler W) R))
     → All (λ pool_slot. HasLearned known pool_slot.server.desk.reader) pool_slots
     → All (λ worker. length known.installs ≤ learned_front_of worker.reader) (map (edge_worker coming_of) pool_slots)
@@ -93,7 +95,7 @@ all_learned {W} {R} coming_of known (pool_slot ∷ pool_slots) learned =
     (All-head (λ (p : WorkerSlot (EdgeLinkHandler W) R). HasLearned known p.server.desk.reader) pool_slot pool_slots learned).least
     (all_learned coming_of known pool_slots (All-tail (λ (p : WorkerSlot (EdgeLinkHandler W) R). HasLearned known p.server.desk.reader) pool_slot pool_slots learned))
 
--- the opening board that the readers of the slots know
+-- the readers of the slots have seen the opening board of `known`
 pub all_open : {W R : Type 0} (coming_of : R → Coming) (known : Knowledge BoardAt Install) (pool_slots : List (WorkerSlot (EdgeLinkHandler W) R))
     → All (λ pool_slot. HasLearned known pool_slot.server.desk.reader) pool_slots
     → All (λ worker. (seen_by worker.reader).opening ≡ known.opening) (map (edge_worker coming_of) pool_slots)
@@ -113,7 +115,7 @@ begins_shared known reported reader shared said =
     subst (λ (o : Option (Knowledge BoardAt Install)). IfSome o (λ list. list ≡ shared_knowledge known)) said.1 shared in
     subst (λ (list : Knowledge BoardAt Install). StartsReader list.opening list.installs reader) same said.2
 
--- the installs that the readers of the slots begin with
+-- the readers of the slots begin with the installs of `known`
 pub all_begin : {W R : Type 0} (coming_of : R → Coming) (known : Knowledge BoardAt Install) (pool_slots : List (WorkerSlot (EdgeLinkHandler W) R))
     → All (λ pool_slot. HasLearned known pool_slot.server.desk.reader) pool_slots
     → All (λ worker. StartsReader known.opening known.installs worker.reader) (map (edge_worker coming_of) pool_slots)
@@ -131,6 +133,17 @@ all_ordered {W} {R} coming_of (pool_slot ∷ pool_slots) =
     All-cons (λ (worker : EdgeWorker). SeesInOrder worker.reader) (edge_worker coming_of pool_slot) (map (edge_worker coming_of) pool_slots)
     (sees_in_order pool_slot.server.desk.reader pool_slot.server.desk.steady) (all_ordered coming_of pool_slots)
 
+-- workers that answer from boards after these installs see revisions
+pub all_see_revisions : (edition : Option BoardAt) (installs : List Install) (workers : List EdgeWorker)
+    → All (λ worker. AnswersAfter edition installs worker.reader) workers → All (λ worker. SeesRevisions edition worker.reader) workers
+all_see_revisions edition installs [] answers = All-nil (λ (worker : EdgeWorker). SeesRevisions edition worker.reader)
+all_see_revisions edition installs (worker ∷ workers) answers =
+    All-cons (λ (worker : EdgeWorker). SeesRevisions edition worker.reader) worker workers
+    (sees_revisions edition installs worker.reader
+    (All-head (λ (worker : EdgeWorker). AnswersAfter edition installs worker.reader) worker workers answers))
+    (all_see_revisions edition installs workers
+    (All-tail (λ (worker : EdgeWorker). AnswersAfter edition installs worker.reader) worker workers answers))
+
 -- with one more slot whose reader has learned `known`, all readers have
 pub learned_more : {W R : Type 0} (known now : Knowledge BoardAt Install) (pool_slots longer : List (WorkerSlot (EdgeLinkHandler W) R)) (pool_slot : WorkerSlot (EdgeLinkHandler W) R)
     → now ≡ known → longer ≡ pool_slots ++ pool_slot ∷ [] → All (λ pool_slot. HasLearned known pool_slot.server.desk.reader) pool_slots → HasLearned now pool_slot.server.desk.reader
@@ -140,13 +153,13 @@ learned_more {W} {R} known now pool_slots longer pool_slot same more learned one
     (All-push (λ (p : WorkerSlot (EdgeLinkHandler W) R). HasLearned known p.server.desk.reader) pool_slots pool_slot learned
     (subst (λ (k : Knowledge BoardAt Install). HasLearned k pool_slot.server.desk.reader) same one))
 
--- if a list of readers has the writer's origin, so have those after the first
+-- if all readers of a list have the writer's origin, so have those after the first
 pub others_of : (known : Knowledge BoardAt Install) (readers rest : List EdgeReader) (reader : EdgeReader) → readers ≡ reader ∷ rest
     → All (IsOfOrigin known) readers → All (IsOfOrigin known) rest
 others_of known readers rest reader steps all =
     All-tail (IsOfOrigin known) reader rest (subst (λ (rs : List EdgeReader). All (IsOfOrigin known) rs) steps all)
 
--- if a list of readers is new, so are those after the first
+-- if all readers of a list are new, so are those after the first
 pub others_new : (readers rest : List EdgeReader) (reader : EdgeReader) → readers ≡ reader ∷ rest → All IsNewReader readers → All IsNewReader rest
 others_new readers rest reader steps all =
     All-tail IsNewReader reader rest (subst (λ (rs : List EdgeReader). All IsNewReader rs) steps all)
@@ -166,6 +179,7 @@ work_concurrently coming_of known before after workers many learned all =
       worked = works.0;
       over = works.1;
       ordered = all_ordered coming_of after;
+      revisions = all_see_revisions known.opening known.installs (map (edge_worker coming_of) after) works.1;
     }
 
 -- ---- what the door handed out
@@ -222,8 +236,7 @@ asked_first slots places {replies} last {faults} after (Ok accepted) count first
     subst (λ (n : ℕ). Connects (n + 1) replies faults last after) count (connects_still first then)
 asked_first slots places last after (Err fault) count first then = tt
 
--- The turns that were made while links were served start from what was installed before the workers learned of it, and from a receiver
--- that had taken nothing.
+-- the turns that were made while links were served, stated from an equal state of the writer and an equal intake of the receiver
 pub polls_through : {W R : Type 0} (served : Result (PoolOutcome (EdgeLinkHandler W) R) PoolFault) (duty : Duty) (writer same_writer : Writing)
     (tags : List (Option (List ℕ))) (metrics : Book) (peer : PeerView) (intake same_intake : Intake) (after : Refreshing)
     → OnOk served (PollsOn duty (refreshing (poll_state (installed_by same_writer) tags metrics peer) same_intake) after)

@@ -1,17 +1,18 @@
 -- How an edge makes its first turn, and then serves links concurrently. In a turn, the poller asks the upstream for the token book and
 -- then for the state of each slot. An install is one change of the board. The front of a board is the number of installs that led to it.
-use Rattle.std.specs.Prelude.{◌≡◌, ◌≤◌, ℕ, zero, suc, List, [], All, length, map, Option, Some}
+use Rattle.std.specs.Prelude.{◌≡◌, ◌≤◌, ℕ, zero, suc, List, [], All, length, map, IfSome, Option, Some}
 use Rattle.std.specs.List.{AllZip}
 use Rattle.unl_core.specs.Board.{empty_slot}
 use Rattle.unl_core.specs.DeskStates.{place_at}
 use Rattle.unl_core.specs.declared.board.Board.{Board}
 use Rattle.unl_core.specs.declared.board.Install.{Install}
 use Rattle.unl_delta.specs.Installing.{Installed}
-use Rattle.unl_edge.specs.LinkHandling.{NotedAfter, ServesOver}
+use Rattle.unl_edge.specs.LinkHandling.{AnswersFromRevisions, NotedAfter, ServesOver}
 use Rattle.unl_edge.specs.Polling.{PollsUpstream}
 use Rattle.unl_edge.specs.WorkerBooks.{WorkerBook, book_of}
 use Rattle.unl_edge.specs.declared.link_handler.EdgeLinkHandler.{EdgeLinkHandler}
 use Rattle.unl_edge_state.specs.Editions.{BoardAt, orderly_opening}
+use Rattle.unl_edge_state.specs.Histories.{SeesRevisions}
 use Rattle.unl_edge_state.specs.Reading.{AnswersAfter, StartsReader, SeesInOrder, seen_by, learned_front_of}
 use Rattle.unl_edge_state.specs.Writing.{LeadsTo}
 use Rattle.unl_edge_state.specs.declared.reader.EdgeReader.{EdgeReader}
@@ -73,13 +74,15 @@ abbrev pub edge_worker : {W R : Type 0} → (R → Coming) → WorkerSlot (EdgeL
 edge_worker coming_of pool_slot =
     record { reader = pool_slot.server.desk.reader; book = book_of pool_slot.server; coming = coming_of pool_slot.draws }
 
--- A worker served this link. It computed each of its answers from the opening board after a list of installs
--- that starts with `installs`.
+-- A worker served this link. It computed each of its answers from the opening board after a list of installs that starts with `installs`.
+-- If each version in the list that the worker's reader last saw came by a batch that can be sent from the line of its environment, each
+-- answer was computed from one revision of that line, as the token sees it.
 pub record WorkerServes
     (edition : Option BoardAt) (installs : List Install) (before : EdgeWorker) (link link_after : LinkView)
     (after : EdgeWorker) : Type 0 where
   pub served : ServesOver before.reader before.book before.coming link link_after after.reader after.book after.coming
   pub over : All (NotedAfter edition installs after.reader) served.ones
+  pub revisions : IfSome edition (λ opening. AnswersFromRevisions opening after.reader served.ones)
 
 -- a worker served some link
 pub record ServesALink (edition : Option BoardAt) (installs : List Install) (before after : EdgeWorker) : Type 0 where
@@ -99,8 +102,10 @@ Works edition installs before after = (links : ℕ) × WorkerServesLinks edition
 
 -- `workers` workers served links concurrently. Before its first link, each worker knew the opening board `edition` and exactly the
 -- installs `installs`. It computed each answer from the opening board after a list of installs that starts with `installs`. The list
--- that each worker saw is orderly: each version in it results from a batch that applies to the slot's version before. No board that a
--- worker knows has an older version at a slot than a board that the worker knows at a smaller front.
+-- that each worker saw is orderly: each version in it results from a batch that applies to the slot's previous version. From each board
+-- that a worker knows to one at a larger front, no slot gets an older version or becomes empty. If each version in the list that a
+-- worker saw came by a batch that can be sent from the line of its environment, each board that the worker knows has revisions of these
+-- lines (`SeesRevisions`).
 pub record WorkConcurrently (workers : ℕ) (edition : Option BoardAt) (installs : List Install) : Type 0 where
   pub begun : List EdgeWorker
   pub ended : List EdgeWorker
@@ -111,6 +116,7 @@ pub record WorkConcurrently (workers : ℕ) (edition : Option BoardAt) (installs
   pub worked : AllZip (Works edition installs) begun ended
   pub over : All (λ worker. AnswersAfter edition installs worker.reader) ended
   pub ordered : All (λ worker. SeesInOrder worker.reader) ended
+  pub revisions : All (λ worker. SeesRevisions edition worker.reader) ended
 
 -- The upstream was polled. In the first turn the book and each slot were asked for, and what was installed is what the replies say; the
 -- peer may have failed in an exchange. Each later turn was made too, or ended early because memory ran out; of a later turn nothing is

@@ -20,8 +20,8 @@ use Rattle.unl_workers.specs.declared.pool.PoolOutcome.{PoolOutcome}
 use Rattle.unl_workers.specs.declared.pool.PoolFault.{PoolFault}
 
 -- `Connects 0` holds from one state of a peer to a later one if the fault count didn't fall and, unless it rose, the replies to come are
--- those of before without some at the front. Here: if `Connects 0` holds from any first state to the state with `replies` and `faults`,
--- it also holds from that first state to the state with `replies_after` and `faults_after`.
+-- a suffix of the earlier ones. Here: if `Connects 0` holds from any first state to the state with `replies` and `faults`, it also holds
+-- from that first state to the state with `replies_after` and `faults_after`.
 abbrev pub KeepsConnects :
     (replies : Option (List (List ℕ))) (faults : ℕ) (replies_after : Option (List (List ℕ))) (faults_after : ℕ) → Type 0
 KeepsConnects replies faults replies_after faults_after =
@@ -90,7 +90,7 @@ pub record RunsEdge (words : EdgeArguments) (end : ServingEnd) (before after : S
   pub taken : TakesDraw before.draws draw coming
   pub ends : EdgeEnds (service_of words draw.word) words.port end (record before { draws = coming }) after
 
--- how an edge with these arguments ends; memory may also have run out before it took the draw
+-- how an edge with these arguments ends; if memory ran out before the first link was handed out, nothing is said of the draw
 abbrev pub EdgeRuns : EdgeArguments → ServingEnd → Scene → Scene → Type 0
 EdgeRuns words Closed before after = RunsEdge words Closed before after
 EdgeRuns words WriteFault before after = RunsEdge words WriteFault before after

@@ -1,5 +1,6 @@
--- How the program ends: what each command has done to the endpoints when it ends with a status, which endpoints it leaves unchanged, and
--- which exit code it returns. A `Scene` has the states of all endpoints: `before` at the start of the run, `after` at its end.
+-- How the program ends: what each command has done to the endpoints (the input, the output, the network and others) when it ends with a
+-- status, which endpoints it leaves unchanged, and which exit code the program returns. A `Scene` has the states of all endpoints: `before`
+-- at the start of the run, `after` at its end.
 use Rattle.std.specs.Prelude.{◌≡◌, ℕ, ◌==◌, List, codes, Option, IfSome, Result, Ok, Err, if◌then◌else◌}
 use Rattle.unl_base.specs.Faults.{Rose}
 use Rattle.unl_base.specs.Streams.{Sends, SendsPrefix}
@@ -97,8 +98,8 @@ pub record Ended {E : Type 0} (status_of : E → Status) (EndsSo : E → Type 0)
   pub is : status ≡ status_of end
   pub ends : EndsSo end
 
--- How the program ends with this status, by the command that its arguments name. If the arguments are bad, the line for bad arguments is
--- printed. If memory runs out while the arguments are read, the status is `OutOfMemory` (`LeavesAlone` says that nothing else happens).
+-- How the program ends with this status, by the command that its arguments name. If the arguments are bad, `PrintsBadArguments` holds. If
+-- memory runs out while the arguments are read, the status is `OutOfMemory` (`LeavesAlone` says that nothing else happens).
 abbrev pub Ends : WordsReading → Status → Scene → Scene → Type 0
 Ends (Ok Replay) status before after =
     Ended lines_status
@@ -121,8 +122,8 @@ Ends (Ok (Load seed count)) status before after =
 Ends (Err Bad) status before after = Ended arguments_status (λ end. PrintsBadArguments end before.output.sent after.output.sent) status
 Ends (Err Memory) s before after = s ≡ status.OutOfMemory
 
--- The state and the fault count of each endpoint that the command doesn't use are unchanged. If memory ran out while the arguments were
--- read, no endpoint changed.
+-- The state and the fault count of each endpoint that the command doesn't use are unchanged. For bad arguments, at most the output
+-- changed. If memory ran out while the arguments were read, no endpoint changed.
 abbrev pub LeavesAlone : WordsReading → Scene → Scene → Type 0
 LeavesAlone (Ok Replay) before after = ChangesStreams before after
 LeavesAlone (Ok (Check now word)) before after = ChangesStreams before after

@@ -4,7 +4,7 @@ use Rattle.std.specs.Prelude.{ℕ, ◌*◌, Bool, false, List, [], Option, Some,
 use Rattle.unl_words.specs.declared.words.Words.{Words}
 use Rattle.unl_words.specs.declared.words.Words.TheVariants.{Replay, Check, Edge, Explain, Follow, Load, Upstream}
 
--- these arguments ask that commands are kept in a database
+-- whether these arguments ask for commands to be kept in a database
 abbrev pub asks_for_database : Words → Bool
 asks_for_database Replay = false
 asks_for_database (Check now word) = false
@@ -38,7 +38,7 @@ address_asked (Follow replica) = replica.upstream
 address_asked Explain = []
 address_asked (Load seed count) = []
 
--- the longest wait between two polls of the server, in nanoseconds, if the command polls one (the argument is in seconds)
+-- the longest wait between two polls of the server, in nanoseconds, if the command polls a server (the argument is in seconds)
 abbrev pub interval_asked : Words → Option ℕ
 interval_asked Replay = None
 interval_asked (Check now word) = None

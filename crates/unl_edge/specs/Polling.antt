@@ -1,4 +1,5 @@
--- The turns of an edge's poller: the first, and those that follow while the edge's workers serve links.
+-- The turns of an edge's poller, which polls the upstream once in each turn: the first, and those that follow while the edge's workers
+-- serve links.
 use Rattle.std.specs.Prelude.{◌≡◌, ◌⊎◌, ◌<◌, ◌≤◌, ◌+◌, ◌-◌, ◌^◌, ℕ, length}
 use Rattle.unl_delta.specs.Installing.{Installed}
 use Rattle.unl_metrics.specs.Book.{Book}
@@ -7,7 +8,7 @@ use Rattle.unl_refresh.specs.MetricsQueues.{Intake, Merges, Receiving, no_intake
 use Rattle.unl_refresh.specs.Turns.{Duty, MakesTurn, PollState, StopsInTurn, poll_state}
 use Rattle.unl_workers.specs.Periodic.{Turns}
 
--- The fixed parameters of a poller are unchanged: its tokens, its slots and their request parameters, and its upstream.
+-- The fixed parameters of a poller are unchanged: its tokens, the number of its slots and their request parameters, and its upstream.
 pub record SameWork (before after : Duty) : Type 0 where
   pub known : after.known ≡ before.known
   pub slots : after.slots ≡ before.slots
@@ -15,7 +16,8 @@ pub record SameWork (before after : Duty) : Type 0 where
   pub upstream : after.upstream ≡ before.upstream
 
 -- A turn was made, or it stopped because memory ran out. Nothing is said if the front (the number of installs) is so near 2^64 - 1 that
--- one install for the token book and one for each slot could reach that number, or if the poller has more slots than there are places.
+-- one install for the token book and one for each slot could reach that number, or if the poller has more slots than the board has places
+-- (one for each slot of the board).
 abbrev pub TurnEnds : Duty → PollState → PollState → Type 0
 TurnEnds duty before after =
     before.installed.front + duty.slots + 1 < 2 ^ 64 - 1 → duty.slots ≤ length before.installed.places
@@ -31,24 +33,25 @@ pub record Refreshing : Type 0 where
 abbrev pub refreshing : PollState → Intake → Refreshing
 refreshing poll intake = record { poll = poll; intake = intake }
 
--- A later turn: books were taken from the workers and added to the metrics that are not sent yet, and then the turn was made.
+-- A later turn: books were taken from the workers and added to the metrics that are not sent yet (the last book may be left for the next
+-- turn), and then the turn was made or stopped (`TurnEnds`).
 pub record LaterTurn (duty : Duty) (before after : Refreshing) : Type 0 where
   pub metrics : Book
   pub merges : Merges before.poll.metrics before.intake metrics after.intake
   pub ends : TurnEnds duty (record before.poll { metrics = metrics }) after.poll
 
--- A receiver of metrics may have taken books. Nothing else of it changed.
+-- A receiver of metrics may have taken books. The rest of its state is unchanged.
 abbrev pub KeepsReceiver : Receiving → Receiving → Type 0
 KeepsReceiver before after = after ≡ record before { intake = after.intake }
 
--- Any number of later turns, also none, were made one after another.
+-- Any number of later turns, possibly none, were made one after another.
 pub record PollsOn (duty : Duty) (before after : Refreshing) : Type 0 where
   pub turns : ℕ
   pub made : Turns (LaterTurn duty) turns before after
 
--- All turns of a poller. The first begins with the installed state `opening`, the poller's tags and metrics, and the peer's state `peer`.
--- It ends with the installed state `first`. Then the later turns follow. No books were taken from the workers before them. The last turn
--- ends with the peer's state `peer_after`, so nothing was sent to the peer outside of these turns. Each later turn has the effect
+-- All turns of a poller. The first begins with the installed state `opening`, the poller's entity tags and metrics, and the peer's state
+-- `peer`. It ends with the installed state `first`. Then the later turns follow. No books were taken from the workers before them. The last
+-- turn ends with the peer's state `peer_after`, so nothing was sent to the peer outside of these turns. Each later turn has the effect
 -- `TurnEnds`, with the exceptions named there.
 pub record PollsUpstream (duty : Duty) (opening : Installed) (peer : PeerView) (first : Installed) (peer_after : PeerView) : Type 0 where
   pub begun : PollState

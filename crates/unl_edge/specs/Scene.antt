@@ -16,20 +16,21 @@ pub record OutputEnd : Type 0 where
   pub sent : Option (List ℕ)
   pub faults : ℕ
 
--- the door: the ports that it listened at, the links that it handed out and took back, and the count of its faults
+-- the door, which accepts connections: the ports that it listened at, whether it is closed, its links (to come, handed out and taken
+-- back), and the count of its faults
 pub record DoorEnd : Type 0 where
   pub state : DoorState
   pub faults : ℕ
 
--- the peer: whether it is connected, the bytes still to be read, the bytes sent on this connection and on each earlier one, the bytes
--- that each later connection gives to its reader, and the count of its faults
+-- the peer, the server that is polled: whether it is connected, the bytes still to be read, the bytes sent on this connection and on each
+-- earlier one, the bytes that each later connection gives to its reader, and the count of its faults
 pub record PeerEnd : Type 0 where
   pub state : PeerState
   pub faults : ℕ
 
--- the state of all endpoints: the four above, the draws to come (each a time and a random word), the number of turns that the pace still
--- has, the count of the spawner's faults, and the maker of keepers (the rows of the keeper that it got back last, and the count of the
--- maker's faults)
+-- The state of all endpoints: the four above; the draws to come (each a time and a random word); the number of turns that the pace, which
+-- delays each turn after the first, still has; the count of faults of the spawner, which starts threads; and the maker of keepers (stores
+-- of an upstream's commands): the rows of the keeper that the maker got back last, and the count of the maker's faults.
 pub record Scene : Type 0 where
   pub input : InputEnd
   pub output : OutputEnd

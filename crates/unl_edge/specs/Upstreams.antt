@@ -1,5 +1,5 @@
--- How the command `upstream` ends. It creates an upstream and a keeper (the store of the upstream's commands), runs the upstream on the
--- keeper, and returns the keeper to the maker that created it.
+-- How the command `upstream` ends. It creates an upstream and a keeper (the store of the upstream's commands), reopens the upstream on the
+-- keeper (applies the stored commands), runs the upstream, and returns the keeper to the maker that created it.
 use Rattle.std.specs.Prelude.{◌≡◌, ◌⊎◌, ℕ, List, [], ◌++◌, Option, Some, IfSome, option_map}
 use Rattle.unl_base.specs.Draws.{TakesDraw}
 use Rattle.unl_base.specs.declared.draws.Draw.{Draw}

@@ -1,4 +1,4 @@
--- The metrics of a worker: how many times each feature was on and off, as its clients report. A book is a list of such counts. The worker
+-- The metrics of a worker: how many times each feature was on and off, as clients report. A book is a list of such counts. The worker
 -- hands books over, through a queue, to the thread that polls the upstream.
 use Rattle.std.specs.Prelude.{◌≡◌, List, []}
 use Rattle.unl_edge.specs.declared.link_handler.EdgeLinkHandler.{EdgeLinkHandler}

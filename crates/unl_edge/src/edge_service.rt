@@ -257,8 +257,8 @@ where
     readers_are_send();
     writers_are_send::<W>();
     worker_parts_are_send();
-    // The result is matched, and not returned directly, because the proof treats the case `Ok` apart: only in this case
-    // it is known that the task still holds the same references.
+    // The result is matched instead of returned directly, because the proof handles the case `Ok` separately: only in
+    // this case is it known that the task still holds the same references.
     match run_pool(alloc, rt, spawner, door, pace, &mut turn, pool_slots) {
         Ok(outcome) => Ok(outcome),
         Err(PoolFault::Spawner) => Err(PoolFault::Spawner),

@@ -16,10 +16,10 @@ use unl_server::Server;
 use unl_workers::LinkHandler;
 
 /// A desk that answers requests with a reader. Each answer is computed from a board that results from at least as many
-/// installs as the reader has learned of. A list of installs that a reader learns from a report of the writer replaces
-/// the list that the reader had, and boards that the reader knew before need not follow the new list. But the reader of
-/// this desk has learned a list only while the opening board (the board before all installs) was the only board that it
-/// knew. So all boards that it knows follow one list, and no slot gets an older version in that list.
+/// installs as the reader has learned of. When a reader learns a list of installs from a report of the writer, the new
+/// list replaces its old one, and boards that it knew before need not follow the new list. The reader of this desk has
+/// learned lists only while it knew no board but the opening board (the board before all installs). So all boards that
+/// it knows follow one list, and no install in that list gives a slot an older version.
 #[derive(Drop)]
 pub(crate) struct FreshDesk {
     /// The reader of the published boards.

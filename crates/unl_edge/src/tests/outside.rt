@@ -277,8 +277,8 @@ impl<'a> Door for TestDoor<'a> {
 }
 
 /// A pace with one turn for each item of `turns`. A turn starts once as many answers were sent as its item says, on all
-/// links together, or if [`Events::wait_for`] gives up. Each call of `more`, also the first and the last, adds 1 to the
-/// ended turns: the first call ends the first poll, which doesn't wait for the pace.
+/// links together, or if [`Events::wait_for`] gives up. Each call of `more`, including the first and the last, adds 1
+/// to the count of ended turns: the first call ends the first poll, which doesn't wait for the pace.
 #[derive(Drop)]
 pub(crate) struct TestPace<'a> {
     turns: &'static [u64],

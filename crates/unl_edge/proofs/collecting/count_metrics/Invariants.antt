@@ -3,7 +3,7 @@ use Rattle.std.specs.Prelude.{All, flat_map}
 use Rattle.unl_edge.specs.WorkerBooks.{HandsTo, handed_at}
 use Rattle.unl_edge.proofs.collecting.count_metrics.Given as goal
 
--- the receiver has the parts of the slots so far and what they handed over, and the other slots remain
+-- the receiver has the parts and the handed-over books of the senders that it took back so far, and the other slots remain
 abbrev pub invariant-loop-pool_slot : goal.invariant-loop-pool_slot
 invariant-loop-pool_slot g l = record {
   kept : l.receiver ≡ record l.initial.receiver { parts = l.receiver.parts; handed = l.receiver.handed };

@@ -19,7 +19,7 @@ run_pool-requires-send-S g c κs within =
     let sender = c.worker_parts_are_send.ensures.sender in
     search (handler_send, sendable, crosses) depth 20
 
--- the task holds the references that it was given
+-- after its turns, the task still holds the references that it was given
 pub returns-in-Ok-clause-connects : goal.returns-in-Ok-clause-connects
 returns-in-Ok-clause-connects g c =
     let after = c.run_pool.new.turn in
@@ -28,7 +28,7 @@ returns-in-Ok-clause-connects g c =
     (g.P.Peer.state after.peer.now).replies (g.P.Source.faults after.peer.now) = c.in-Ok.ensures.turns.keeps.3 _ _ (connects_nothing _ _) in
     search rules
 
--- so each turn of the task is one of the poller, the writer, the peer and the receiver
+-- so each turn of the task is a turn of this poller, with this writer, peer and receiver
 pub returns-in-Ok-clause-polls : goal.returns-in-Ok-clause-polls
 returns-in-Ok-clause-polls g c =
     let after = c.run_pool.new.turn in

@@ -5,7 +5,7 @@ use Rattle.unl_publication.specs.Seen.{reported_front, reported_list}
 use Rattle.unl_edge.proofs.Working.{begins_shared}
 use Rattle.unl_edge.proofs.worker_slots.worker_slot_of.Goals as goal
 
--- a new reader that learned a list is steady
+-- a new reader that learned a list is steady: it knew no board but the opening board before
 pub new-requires : goal.new-requires
 new-requires g c =
     learns c.args.reader c.learn_all.new.self (reported_front c.tell.result) (reported_list c.tell.result) c.requires.new c.in_ok-learn_all.ensures.origin

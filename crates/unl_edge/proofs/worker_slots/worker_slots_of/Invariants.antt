@@ -5,7 +5,8 @@ use Rattle.unl_edge.specs.WorkerBooks.{HasNewBook}
 use Rattle.unl_edge_state.specs.Reading.{IsNewReader}
 use Rattle.unl_edge.proofs.worker_slots.worker_slots_of.Given as goal
 
--- each slot so far has learned and has a new book, and the readers to come are new and of the writer's origin
+-- the reader of each slot so far has learned all known installs, each of these slots has a new book, and the readers to come are new and
+-- of the writer's origin
 abbrev pub invariant-loop-reader : goal.invariant-loop-reader
 invariant-loop-reader g l = record {
   same : l.writer ≡ l.initial.writer;
