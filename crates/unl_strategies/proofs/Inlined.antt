@@ -1,4 +1,4 @@
--- A strategy is active for the same contexts after its segments are inlined.
+-- A strategy is active for the same contexts after its segments are inlined, that is, replaced by copies of their constraints.
 use Rattle.std.proofs.Common.{◌≡◌, ℕ, Bool, true, false, List, [], ◌∷◌, ◌++◌, Option, Some, None, refl, ap, ◌∙◌}
 use Rattle.std.specs.Prelude.{◌&&◌, codes, flat_map}
 use Rattle.std.specs.List.{list_all}

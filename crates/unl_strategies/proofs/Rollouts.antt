@@ -5,7 +5,7 @@ use Rattle.std.proofs.lemmas.Bool.Decides.{nat_tests}
 use Rattle.unl_murmur.specs.Murmur3.{murmur3, normalized_of}
 use Rattle.unl_strategies.specs.Rollout.{is_rolled_out}
 
--- A number that is within a percentage is within every greater one.
+-- A number is within a percentage if the percentage is positive and at least the number. It is then within every greater percentage.
 test_grows : (percent more number : ℕ) → percent ≤ more → nat_lt 0 percent && nat_le number percent ≡ true → nat_lt 0 more && nat_le number more ≡ true
 test_grows percent more number grown taken = grind (arith, nat_tests)
 

@@ -1,8 +1,8 @@
--- Laws on rollouts.
+-- Laws about rollouts to a percentage of ids.
 use Rattle.std.specs.Prelude.{◌≡◌, ◌≤◌, ℕ, List, true, false}
 use Rattle.unl_strategies.specs.Rollout.{is_rolled_out}
 
--- If a percentage includes an id, so does every greater percentage.
+-- If a percentage includes an id, so does every greater percentage with the same group (the text that is hashed with the id).
 abbrev pub RolloutsGrow : Type 0
 RolloutsGrow =
     (percent more : ℕ) (group id : List ℕ) → percent ≤ more → is_rolled_out percent group id ≡ true → is_rolled_out more group id ≡ true

@@ -42,7 +42,7 @@ id_by stickiness context random =
     if bytes_eq stickiness (codes "random") then Some random else
     field_of context stickiness)
 
--- The random number of the strategy at this index in the feature, with the word of the evaluation's moment.
+-- The random number of the strategy at this index in the feature, derived from the word of the evaluation's moment.
 abbrev pub random_at : List ℕ → ℕ → Moment → ℕ
 random_at feature index moment = random_number feature (mark.Strategy index) moment.word
 
@@ -57,7 +57,7 @@ is_address_listed parameters context =
     option_map_or (λ text. is_in_nets (parameter_or [] (codes "IPs") parameters) text) (field_of context (codes "remoteAddress")) false
 
 -- The percentage in the parameter `percentage` includes the value of the context's field. False if the context lacks the field. The group
--- is the parameter `groupId`, or empty if that is absent.
+-- (the text that is hashed with this value) is the parameter `groupId`, or empty if that is absent.
 unfoldable pub is_field_rolled_out : List ℕ → List Pair → Fields → Bool
 is_field_rolled_out name parameters context =
     option_map_or

@@ -10,7 +10,7 @@ use unl_context::Context;
 pub(crate) enum RolloutId<'a> {
     /// The value of a field of the context.
     Field(&'a str),
-    /// The random id. Its decimal digits are formatted only if they are needed.
+    /// The random id, a pseudo-random number from 1 to 10,000. Its digits are formatted only if they are needed.
     Random,
     /// No id: the context lacks the selected field.
     Absent,

@@ -94,7 +94,8 @@ fn is_address_listed(parameters: &List<Pair>, context: &Context) -> bool
 }
 
 /// Whether the percentage in the parameter `percentage` includes the value of a field of the context. False if the
-/// context lacks the field. The group is the parameter `groupId`, or empty if that is absent.
+/// context lacks the field. The group (the text that is hashed with this value) is the parameter `groupId`, or empty if
+/// that is absent.
 #[tactic(auto, unfolding(crate::specs::Strategy::is_field_rolled_out))]
 fn is_field_rolled_out(name: &str, parameters: &List<Pair>, context: &Context) -> bool
     ensures { result ≡ field_rolled_out name.now parameters.now context.now }
