@@ -25,7 +25,7 @@ plain_is : (pairs : List Pair) (s : Settings) → (fold with_pair s pairs).plain
 plain_is [] s = refl
 plain_is (p ∷ pairs) s = plain_is pairs (with_pair s p)
 
--- Applying the property that a key sets, if any, is `set_inner`.
+-- Setting the property x of a pair with the key `properties[x]`, or nothing for another pair, has the effect of `set_inner`.
 one_is : (c : Fields) (pair : Pair) → fold named c (option_to_list (inner_of pair)) ≡ set_inner c pair
 unfolding inner_of set_inner
 one_is c (key, value) = elim (inner_name key) as (λ found. fold named c (option_to_list (elim found as (λ _. Option Property) [ Some name ↦ Some (record { name = name; value = value }) | None ↦ None ])) ≡ (elim found as (λ _. Fields) [ Some name ↦ with_property name value c | None ↦ c ])) [ Some name ↦ refl | None ↦ refl ]
@@ -105,7 +105,7 @@ too_many pairs many =
     let more = inner_grows (fold with_pair none_yet pairs).inner (fold with_pair none_yet pairs).plain in
     rw (← set_apart pairs) (over (with_inner (fold with_pair none_yet pairs)) (omega arith))
 
--- Once there are more than 256 properties, there still are after all pairs.
+-- If `plain` has more than 256 properties, it still has more than 256 after further pairs are applied.
 pub stays_over : (pairs : List Pair) (s total : Settings) → fold with_pair s pairs ≡ total → 256 < length s.plain.properties → 256 < length total.plain.properties
 stays_over pairs s total is many =
     let more = taken_grows pairs s in

@@ -29,7 +29,7 @@ all_above : (first : String Global) (es : List Entry) → AllByRecursion (λ k. 
 all_above first [] h = tt
 all_above first (e ∷ es) h = (h.0, all_above first es h.1)
 
--- The names of an object's members are strictly ascending.
+-- If the keys of an object's members are strictly ascending as strings, the names (their bytes) are strictly ascending in byte order.
 pub rising_names : (es : List Entry) → IsStrictlySortedBy string_cmp (keys_of es) → AreRising (names_of es)
 unfolding IsStrictlySortedBy
 rising_names [] h = tt

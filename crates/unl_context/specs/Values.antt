@@ -31,8 +31,8 @@ present (object inside) = Some (object inside)
 unfoldable pub at : List ℕ → Data → Option Data
 at key value = option_and_then present (get key value)
 
--- The value as a string: a string itself, or the JSON text of an integer or a boolean, or `WrongKind` for any other value. `-0` and
--- integers outside -2^63 to 2^64 - 1 are parsed as floats, so they are not integers here.
+-- The value as a string: a string stays as it is, and an integer or a boolean becomes its JSON text. `WrongKind` for any other value. `-0`
+-- and integers outside -2^63 to 2^64 - 1 are parsed as floats, so they are not integers here.
 abbrev pub plain : Part → Data → Reading (List ℕ)
 plain part null = Err (WrongKind part)
 plain part (boolean b) = Ok (compact_text (boolean b))

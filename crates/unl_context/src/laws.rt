@@ -1,5 +1,5 @@
-//! Laws on the fields and properties that the pairs of a query set. Each law is the contract of a function that does
-//! nothing.
+//! Laws on the fields and properties that are set by the pairs of a query. Each law is the contract of a function that
+//! does nothing.
 ghost use Rattle.unl_context.specs.Laws.{LastFieldCounts, LastPropertyCounts, SetNamesRise};
 
 /// A field has the value of the last pair whose key is the field's name, or is absent if there is no such pair.

@@ -58,8 +58,9 @@ pub(crate) fn text_of(alloc: Global, part: Part, value: Value) -> Result<Text, B
     }
 }
 
-/// Converts the value of a part of a context to a string: a string itself, or the JSON text of an integer or boolean.
-/// Returns `WrongKind` with the part for any other value, and `TooLarge` for a string of more than 4,096 bytes.
+/// Converts the value of a part of a context to a string: a string stays as it is, and an integer or boolean becomes
+/// its JSON text. Returns `WrongKind` with the part for any other value, and `TooLarge` for a string of more than 4,096
+/// bytes.
 #[tactic(auto, unfolding(crate::specs::Values::text_in))]
 pub(crate) fn text_in(alloc: Global, part: Part, value: &Value) -> Result<Text, BadContext>
     ensures { Gives result (text_in part (view value.now)) }
