@@ -30,7 +30,7 @@ contrary : (inverted b : Bool) → (true && (if inverted then not (not b) else n
 contrary true b = refl
 contrary false b = refl
 
--- If one result negates another, this is still so after both are inverted.
+-- If one result is the negation of another, it still is after both of them, or neither, are inverted.
 contraries : (inverted a b : Bool) → a ≡ not b → (true && (if inverted then not a else a)) ≡ not (true && (if inverted then not b else b))
 contraries inverted a b is = rw is (contrary inverted b)
 

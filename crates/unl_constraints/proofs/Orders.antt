@@ -21,7 +21,7 @@ equal_from x y equal = subst (λ r. MatchOrdering r (x <ℤ y) (x ≡ y) (y <ℤ
 reversed : (p q : Number) → number_cmp p q ≡ ordering_reverse (number_cmp q p)
 reversed (n, s) (m, t) = int_cmp_total.antisymm (n *ℤ pos (10 ^ t)) (m *ℤ pos (10 ^ s))
 
--- Transitivity, by multiplying each side with the third number's power of ten.
+-- The order is transitive. To show this, each comparison of two numbers is multiplied by the third number's power of ten.
 passes : (p q r : Number) → number_cmp p q ≡ Less → number_cmp q r ≡ Less → number_cmp p r ≡ Less
 passes (n, s) (m, t) (k, u) low high =
     let first : int_cmp ((n *ℤ pos (10 ^ t)) *ℤ pos (10 ^ u)) ((m *ℤ pos (10 ^ s)) *ℤ pos (10 ^ u)) ≡ Less = cmp_scaled (n *ℤ pos (10 ^ t)) (m *ℤ pos (10 ^ s)) (10 ^ u) (ten_power u) ∙ low in

@@ -72,7 +72,8 @@ none_later key k low (y ∷ ys) after above =
     let not : has_key key k y ≡ false = not_later key k low y after above.0 in
     (rw not others.0, rw not others.1)
 
--- The item at the index that the binary search finds has the key `k` exactly if any of the items has this key.
+-- The item at the index that the binary search finds has the key `k` exactly if any of the items has this key. It is then the first such
+-- item.
 abbrev pub IsDecidedByItem : {X : Type 0} → (X → List ℕ) → List ℕ → List X → Type 0
 IsDecidedByItem key k xs = (option_and_then (if_key key k) (slice_get xs (prefix_len (is_below key k) xs)) ≡ find (has_key key k) xs)
     × (option_map_or (has_key key k) (slice_get xs (prefix_len (is_below key k) xs)) false ≡ list_any (has_key key k) xs)

@@ -47,9 +47,9 @@ impl Compiled {
         compare(alloc, &self.constraint, &self.right, context, now)
     }
 
-    /// Returns the constraint's values in ascending byte order, without duplicates. If the operator is one of the three
-    /// STR operators and the constraint is case-insensitive, each value is in its case-folded form, by the default
-    /// folding of the Unicode Standard. Does not allocate.
+    /// Returns the constraint's values in ascending byte order, without duplicates. If the operator is STR_CONTAINS,
+    /// STR_STARTS_WITH or STR_ENDS_WITH and the constraint is case-insensitive, each value is in its case-folded form,
+    /// by the default folding of the Unicode Standard. Does not allocate.
     pub fn values(&self) -> &List<Text>
         ensures { AreValues self.now result.now }
     {

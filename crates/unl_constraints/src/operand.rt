@@ -49,7 +49,7 @@ pub(crate) struct Operand {
     pub values: List<Text>,
     /// The constraint's single value, parsed.
     pub single: ScalarOperand,
-    /// The constraint's field, if that is a [`KnownField`]. `None` if it is a property.
+    /// The constraint's field, if that is one of the six fields of a context. `None` if it is a property.
     pub known: Option<KnownField>,
 }
 
@@ -91,7 +91,7 @@ pub(crate) trait OperandSide {
         requires kind { kind_by constraint.now.operator ≡ kind.Part }
         ensures { IfOk result (λ r. r ≡ some_there position constraint.now.caseless text.now constraint.now.values) };
 
-    /// Returns the constraint's field if that is a [`KnownField`], or `None` if it is a property.
+    /// Returns the constraint's field if that is one of the six fields of a context, or `None` if it is a property.
     fn known(&self, constraint: &Constraint) -> Option<KnownField>
         requires { is_of constraint.now self.now }
         ensures { result ≡ known_by constraint.now.field };
