@@ -43,9 +43,9 @@ unfolding Rises
 rises_back key [] ys h = h
 rises_back key (x ∷ xs) ys h = rises_back key xs ys h.1
 
--- ---- chunks that end before a key, and chunks that don't
+-- ---- chunks that end before a key (the last item's key comes before it), and chunks that don't
 
--- one more item at the front doesn't change whether the list ends before the key
+-- one more item at the front of a list that isn't empty doesn't change whether the list ends before the key
 ends_alike : {T : Type 0} (key : T → List ℕ) (k : List ℕ) (x y : T) (ys : List T) → ends_before key k (x ∷ y ∷ ys) ≡ ends_before key k (y ∷ ys)
 ends_alike {T} key k x y ys =
     let more : suc (suc (length ys)) - 1 ≡ suc (length ys) = omega arith in
@@ -194,7 +194,7 @@ find_parts {T} key k xs ys zs low high =
 
 -- ---- changing the chunk of a key
 
--- no chunk is empty, by recursion
+-- no chunk is empty, stated with `Every`, which is defined by recursion over the list
 each_full : {T : Type 0} (chunks : List (List T)) → NoneIsEmpty chunks → Every (λ chunk. 1 ≤ length chunk) chunks
 each_full {T} chunks full = recursion_from_All (λ (chunk : List T). 1 ≤ length chunk) chunks full
 

@@ -21,7 +21,7 @@ pub all_events : (events : List Event) → AllByRecursion IsValidEvent events �
 all_events [] valid = All-nil IsValidEvent
 all_events (e ∷ events) valid = All-cons IsValidEvent e events valid.0 (all_events events valid.1)
 
--- the tokens of an event with the type `word`, where `between` are the tokens of the keys of that type
+-- the tokens of an event with the type `word`, where `between` are the tokens of the keys between `eventId` and `type`
 abbrev framed : ℕ → List Token → List ℕ → List Token
 framed number between word = (begin_object ∷ tokens_at field.EventId (count number)) ++ (between ++ (tokens_at field.Kind (string word) ++ end_object ∷ []))
 

@@ -24,7 +24,7 @@ use Rattle.unl_delta.specs.State.{number_of, is_change}
 use Rattle.unl_delta.specs.Valid.{NeverFall, IsBatch, IsValidEvent, IsValidBatch}
 use Rattle.unl_delta.proofs.Every.{every_append}
 
--- the events read so far, followed by those still to be read
+-- the events read so far (`prefix`), followed by those that `reading` gives, or the fault of `reading`
 abbrev pub with_prefix : List Event → Result (List Event) BadBatch → Result (List Event) BadBatch
 with_prefix prefix reading = reading >>= λ others. Ok (prefix ++ others)
 
@@ -90,7 +90,7 @@ fits_at place before value x is = decided (at_place place (event_of value)) is
     decided (Ok e) so = fits_from place before e x so
     decided (Err fault) so = absurd cc
 
--- events after the first position are changes, and the numbers never decrease
+-- the events from index `place` on: all are changes if `place` is not 0, and their numbers never decrease and are not below `before`
 record AreInOrder (place before : ℕ) (es : List Event) : Type 0 where
   pub changes : 0 < place → Every (λ e. is_change e ≡ true) es
   pub numbers : NeverFall number_of before es

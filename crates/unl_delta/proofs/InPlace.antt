@@ -67,7 +67,7 @@ unfolding above
 all_above {T} key k xs h =
     filter_all (λ y. is_before k (key y)) xs (every_weaker (λ (y : T). cmp k (key y) ≡ Less) (λ (y : T). is_before k (key y) ≡ true) xs (λ y less. ap is_lt less) h)
 
--- after an item that doesn't come before the key, all keys are greater
+-- if an item doesn't come before the key k, all items after it have keys greater than k
 pub greater : {T : Type 0} (key : T → List ℕ) (k : List ℕ) (y : T) (ys : List T) → is_before (key y) k ≡ false → Every (λ z. cmp (key y) (key z) ≡ Less) ys → Every (λ z. cmp k (key z) ≡ Less) ys
 greater {T} key k y ys before h = decided (cmp (key y) k) refl before
   where
@@ -79,7 +79,7 @@ greater {T} key k y ys before h = decided (cmp (key y) k) refl before
         let back : cmp k (key y) ≡ Less = nat_list_cmp_total.antisymm k (key y) ∙ ap ordering_reverse is in
         every_weaker (λ (z : T). cmp (key y) (key z) ≡ Less) (λ (z : T). cmp k (key z) ≡ Less) ys (λ z less. nat_list_cmp_total.trans k (key y) (key z) back less) h
 
--- whether there is an item at the position whose key doesn't come after k
+-- whether there is an item at index `place`, and its key doesn't come after k
 abbrev pub represents : {T : Type 0} → (T → List ℕ) → List ℕ → List T → ℕ → Bool
 represents key k xs place = option_map_or (λ y. not (is_before k (key y))) (slice_get xs place) false
 
@@ -229,5 +229,3 @@ found_at {T} key k (y ∷ ys) (suc place) h is =
           let count : prefix_len (λ (z : T). is_before (key z) k) (y ∷ ys) ≡ 0 = rw not refl in
           absurd (omega (arith, is, count))
     ]
-
--- ---- keys that ascend pairwise

@@ -1,4 +1,4 @@
--- The place of a slot after an install, a hold and a batch.
+-- The place of a slot (the version of one environment, if there is one, and whether the slot is held) after an install, a hold or a batch.
 use Rattle.std.proofs.Common.{◌≡◌, ℕ, ◌<◌, length, true, false, Option, Some, Result, Ok, Err, OnOk, IfOk, refl, sym, ap, subst, ◌∙◌}
 use Rattle.std.specs.Prelude.{slice_set}
 use Rattle.std.proofs.lemmas.List.{get_or-set_same}
@@ -17,7 +17,7 @@ use Rattle.unl_delta.proofs.Delivery.{taken_follows, next_follows}
 pub placed : (slot : ℕ) (place : Place) (now : Installed) → slot < length now.places → place_of (with_place slot place now) slot ≡ place
 placed slot place now low = unwrap_or-slice_get (slice_set now.places slot place) slot empty_place ∙ get_or-set_same now.places slot place empty_place low
 
--- after an install, the slot's version still represents the line
+-- after an install, the slot's version still represents the line, and is not older
 pub installed_follows : (slot : ℕ) (batch : Batch) (old new : Installed) → slot < length old.places → verdict_of (place_of old slot) batch ≡ Apply
     → new ≡ after_install slot batch old → PreservesLines (place_of old slot).version batch (place_of new slot).version
 installed_follows slot batch old new low applies is =
@@ -46,7 +46,7 @@ batch_placed Repeat slot batch now low = refl
 batch_placed Old slot batch now low = refl
 batch_placed Held slot batch now low = refl
 
--- after a slot takes a batch, its version still represents the line
+-- after a slot takes a batch, its version still represents the line, and is not older
 pub batch_follows : {E : Type 0} (r : Result Verdict E) (slot : ℕ) (batch : Batch) (old new : Installed) → slot < length old.places → IfOk r (λ v. v ≡ verdict_of (place_of old slot) batch)
     → IfOk r (λ v. new ≡ after_batch v slot batch old) → OnOk r (PreservesLines (place_of old slot).version batch (place_of new slot).version)
 batch_follows (Err e) slot batch old new low does is = tt

@@ -1,4 +1,4 @@
--- The order of revisions.
+-- The order of revisions (pairs of an epoch and a number): `IsNotOlder` is reflexive, transitive and antisymmetric.
 use Rattle.std.proofs.Common.{◌≡◌, ℕ, ◌<◌, ◌≤◌, false, ltb, refl, arith, inr}
 use Rattle.std.specs.Prelude.{◌⊎◌, ◌&&◌, ◌||◌, ◌==◌}
 use Rattle.std.proofs.lemmas.Bool.Decides.{nat_tests}

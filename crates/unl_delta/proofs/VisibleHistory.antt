@@ -1,4 +1,5 @@
--- The entries of a history, and the visible history: the list of those events of a history that a requester gets.
+-- The entries of a history (its events, each with the project that its feature had before), and the visible history: the events that a
+-- requester gets for these entries.
 use Rattle.std.proofs.Common.{◌≡◌, ℕ, ◌<◌, ◌≤◌, Bool, true, false, cond, List, [], ◌∷◌, ◌++◌, Option, Some, None, refl, sym, ap, subst, ◌∙◌, inl, inr}
 use Rattle.std.specs.Prelude.{option_map, ◌⊎◌}
 use Rattle.std.specs.List.{AllByRecursion as Every}

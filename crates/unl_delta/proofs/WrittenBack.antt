@@ -1,4 +1,5 @@
--- Reading the JSON value that was written for a batch returns the same batch.
+-- Reading the JSON value that was written for a valid batch returns the same batch, if its states are within the limits of reading. If it
+-- has no `after`, it gets `held`, the number that the requester sent, if any.
 use Rattle.std.proofs.Common.{◌≡◌, ℕ, ◌+◌, ◌≤◌, Bool, true, false, ltb, List, [], ◌∷◌, map, Option, Some, None, Ok, refl, ◌∙◌, ◌&&◌, not}
 use Rattle.std.specs.Prelude.{codes, drop, option_map}
 use Rattle.std.specs.List.{AllByRecursion as Every}

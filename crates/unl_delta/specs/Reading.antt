@@ -93,13 +93,14 @@ in_order place before event =
     if nat_lt 0 place && not (is_change event) then Err (HydrationNotFirst place)
     else (if nat_lt (number_of event) before then Err (NotRising place) else Ok event)
 
--- reads and checks the event at index `place`; `before` is the number of the event before it
+-- reads and checks the event at index `place`; `before` is the number of the event before it, or 0 if there is none
 unfoldable pub event_at : ℕ → ℕ → Data → Result Event BadBatch
 event_at place before value = do
   event ← at_place place (event_of value)
   in_order place before event
 
--- reads the events from index `place` on, or returns the first fault; `before` is the number of the event before them
+-- reads the events from index `place` on, or returns the first fault; `before` is the number of the event before them, or 0 if
+-- there is none
 unfoldable pub events_from : ℕ → ℕ → Items → Result (List Event) BadBatch
 events_from place before no_items = Ok []
 events_from place before (item value values) = do

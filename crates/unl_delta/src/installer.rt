@@ -14,8 +14,8 @@ use unl_documents::Memory;
 use unl_tokens::Book;
 
 /// Keeps a [`Place`] for each slot and a [`Book`] of tokens. Publishes each new version and each new book to readers.
-/// Each slot is for one environment. The calls name a slot by its index, from 0. A version is the state of the slot's
-/// environment, with its last events.
+/// Each slot is for one environment. The calls name a slot by its index, from 0, which must be below the number of
+/// slots. A version is the state of the slot's environment, with its last events.
 ///
 /// The front is the number of publications so far. A call changes at most the place of its slot or the book, and the
 /// front. If it runs out of memory, it changes nothing.
@@ -48,8 +48,9 @@ pub trait Installer {
     /// Applies a valid batch to a slot, publishes the new version and returns the new front. The slot is then not held.
     /// The verdict on the batch must be `Apply`, and the front must be below 2^64 - 1. The only error is out of memory.
     ///
-    /// Clause `represents`: a line is the histories of one environment, one for each epoch. If the slot's version is a
-    /// revision of a line and the batch was sent from it, the new version is a revision of it too, and is not older.
+    /// Clause `represents`: a line is the histories of one environment, one for each epoch. If the slot has no version
+    /// or one that is a revision of a line, and the batch was sent from that line, the new version is a revision of the
+    /// line too, and is not older.
     fn install(&mut self, alloc: Global, slot: usize, batch: &Batch) -> Result<u64, Memory>
         requires slot { slot < length (installed self.old).places }
         requires front { (installed self.old).front < 2 ^ 64 - 1 }

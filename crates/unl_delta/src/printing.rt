@@ -93,6 +93,9 @@ fn print_segment_removed(out: &mut Writer, number: u64, id: u64) -> Result<(), M
 
 impl WriteJson for Event {
     ghost use Rattle.unl_delta.specs.Valid.{IsValidEvent};
+    ghost use Rattle.unl_delta.specs.Writing.{event_data};
+
+    ghost written = { event_data };
 
     ghost is_printable = { IsValidEvent };
 
@@ -117,6 +120,9 @@ impl WriteJson for Event {
 
 impl WriteJson for Batch {
     ghost use Rattle.unl_delta.specs.Valid.{IsValidBatch};
+    ghost use Rattle.unl_delta.specs.Writing.{batch_data};
+
+    ghost written = { batch_data };
 
     ghost is_printable = { IsValidBatch };
 

@@ -23,7 +23,9 @@ use unl_documents::document::{Document, Object};
 use unl_documents::keys::{defaulted, name_or, optional, required, value_at};
 use unl_documents::kind::{AnyText, AnyWhole, Name};
 use unl_documents::parsing::read_json;
-use unl_documents::{BadDocument, Feature, Feed, Field, List, Memory, Segment, Shared, State};
+use unl_documents::{
+    BadDocument, FeatureJson, Feed, Field, List, Memory, SegmentJson, Shared, StateJson,
+};
 
 #[tactic(auto, unfolding(crate::specs::Reading::hydration_of))]
 fn read_hydration(alloc: Global, value: &Value) -> Result<Event, BadDocument>
@@ -31,7 +33,7 @@ fn read_hydration(alloc: Global, value: &Value) -> Result<Event, BadDocument>
     ensures valid { IfOk result IsValidEvent }
 {
     let number = required::<AnyWhole>(alloc, Field::EventId, value)?;
-    let state = State::read_object(alloc, value)?;
+    let state = StateJson::read_object(alloc, value)?;
     Ok(Event::Hydration { number, state })
 }
 
@@ -41,7 +43,7 @@ fn read_feature_updated(alloc: Global, value: &Value) -> Result<Event, BadDocume
     ensures valid { IfOk result IsValidEvent }
 {
     let number = required::<AnyWhole>(alloc, Field::EventId, value)?;
-    let feature = required::<Object<Feature>>(alloc, Field::Feature, value)?;
+    let feature = required::<Object<FeatureJson>>(alloc, Field::Feature, value)?;
     let feature = Shared::new(alloc, feature)?;
     Ok(Event::FeatureUpdated { number, feature })
 }
@@ -67,7 +69,7 @@ fn read_segment_updated(alloc: Global, value: &Value) -> Result<Event, BadDocume
     ensures valid { IfOk result IsValidEvent }
 {
     let number = required::<AnyWhole>(alloc, Field::EventId, value)?;
-    let segment = required::<Object<Segment>>(alloc, Field::Segment, value)?;
+    let segment = required::<Object<SegmentJson>>(alloc, Field::Segment, value)?;
     let segment = Shared::new(alloc, segment)?;
     Ok(Event::SegmentUpdated { number, segment })
 }

@@ -13,8 +13,8 @@ use std::alloc::Global;
 use unl_documents::Memory;
 
 /// Decides on a batch for a slot, carries out the verdict and returns it. `Apply` applies the batch and publishes the
-/// new version, `Gap` holds the slot, and any other verdict changes nothing. The number of publications must be below
-/// 2^64 - 1.
+/// new version, `Gap` holds the slot, and any other verdict changes nothing. `slot` is an index from 0, below the
+/// number of slots. The batch must be valid, and the number of publications must be below 2^64 - 1.
 ///
 /// A line has the history (the list of all changes) of each epoch of an environment. A version represents a line if it
 /// results from its epoch's history: from the changes up to the version's number, without what the receiver may not

@@ -16,8 +16,14 @@ use crate::batch::Batch;
 use crate::event::Event;
 use serde_json::{Map, Value};
 use std::alloc::Global;
-use unl_documents::to_value::{ToValue, put, put_some, put_unless_zero, put_value};
-use unl_documents::{Feature, Field, List, Memory, Segment, Shared, State, Text};
+use unl_documents::kind::{AnyText, AnyWhole};
+use unl_documents::to_value::{
+    ListJson, SharedJson, ToValue, put, put_some, put_unless_zero, put_value,
+};
+use unl_documents::{
+    Feature, FeatureJson, FeaturesJson, Field, List, Memory, Segment, SegmentJson, SegmentsJson,
+    Shared, State, Text,
+};
 
 /// Inserts the two keys that all events have: the type `word` and the number.
 ///
@@ -31,7 +37,7 @@ fn put_head(
     ensures { OnOk result (members_view members.new.entries
         ≡ with field.Kind (string word.now) (with field.EventId (count number) (members_view members.old.entries))) }
 {
-    put(members, alloc, Field::EventId, &number)?;
+    put::<AnyWhole>(members, alloc, Field::EventId, &number)?;
     put_value(
         members,
         alloc,
@@ -45,8 +51,8 @@ fn write_hydration(alloc: Global, number: u64, state: &State) -> Result<Value, M
     ensures { IfOk result (λ v. view v ≡ event_data (event.Hydration number state.now)) }
 {
     let mut members = Map::new(alloc);
-    put(&mut members, alloc, Field::Segments, &state.segments)?;
-    put(&mut members, alloc, Field::Features, &state.features)?;
+    put::<SegmentsJson>(&mut members, alloc, Field::Segments, &state.segments)?;
+    put::<FeaturesJson>(&mut members, alloc, Field::Features, &state.features)?;
     put_head(&mut members, alloc, "hydration", number)?;
     Ok(Value::Object(members))
 }
@@ -60,7 +66,7 @@ fn write_feature_updated(
     ensures { IfOk result (λ v. view v ≡ event_data (event.FeatureUpdated number feature.now)) }
 {
     let mut members = Map::new(alloc);
-    put(&mut members, alloc, Field::Feature, feature)?;
+    put::<SharedJson<FeatureJson>>(&mut members, alloc, Field::Feature, feature)?;
     put_head(&mut members, alloc, "feature-updated", number)?;
     Ok(Value::Object(members))
 }
@@ -75,8 +81,8 @@ fn write_feature_removed(
     ensures { IfOk result (λ v. view v ≡ event_data (event.FeatureRemoved number name.now project.now)) }
 {
     let mut members = Map::new(alloc);
-    put(&mut members, alloc, Field::Project, project)?;
-    put(&mut members, alloc, Field::FeatureName, name)?;
+    put::<AnyText>(&mut members, alloc, Field::Project, project)?;
+    put::<AnyText>(&mut members, alloc, Field::FeatureName, name)?;
     put_head(&mut members, alloc, "feature-removed", number)?;
     Ok(Value::Object(members))
 }
@@ -90,7 +96,7 @@ fn write_segment_updated(
     ensures { IfOk result (λ v. view v ≡ event_data (event.SegmentUpdated number segment.now)) }
 {
     let mut members = Map::new(alloc);
-    put(&mut members, alloc, Field::Segment, segment)?;
+    put::<SharedJson<SegmentJson>>(&mut members, alloc, Field::Segment, segment)?;
     put_head(&mut members, alloc, "segment-updated", number)?;
     Ok(Value::Object(members))
 }
@@ -100,18 +106,23 @@ fn write_segment_removed(alloc: Global, number: u64, id: u64) -> Result<Value, M
     ensures { IfOk result (λ v. view v ≡ event_data (event.SegmentRemoved number id)) }
 {
     let mut members = Map::new(alloc);
-    put(&mut members, alloc, Field::SegmentId, &id)?;
+    put::<AnyWhole>(&mut members, alloc, Field::SegmentId, &id)?;
     put_head(&mut members, alloc, "segment-removed", number)?;
     Ok(Value::Object(members))
 }
 
-impl ToValue for Event {
+/// How an event is written as a JSON object.
+pub struct EventJson;
+
+impl ToValue for EventJson {
     ghost use Rattle.unl_delta.specs.Writing.{event_data};
+
+    type In = Event;
 
     ghost written = { event_data };
 
-    fn write(&self, alloc: Global) -> Result<Value, Memory> {
-        match self {
+    fn write(alloc: Global, event: &Event) -> Result<Value, Memory> {
+        match event {
             Event::Hydration { number, state } => write_hydration(alloc, *number, state),
             Event::FeatureUpdated { number, feature } => {
                 write_feature_updated(alloc, *number, feature)
@@ -129,17 +140,22 @@ impl ToValue for Event {
     }
 }
 
-impl ToValue for Batch {
+/// How a batch is written as a JSON object.
+pub struct BatchJson;
+
+impl ToValue for BatchJson {
     ghost use Rattle.unl_delta.specs.Writing.{batch_data};
+
+    type In = Batch;
 
     ghost written = { batch_data };
 
     #[tactic(auto, unfolding(crate::specs::Writing::batch_data, crate::specs::Writing::batch_with))]
-    fn write(&self, alloc: Global) -> Result<Value, Memory> {
+    fn write(alloc: Global, batch: &Batch) -> Result<Value, Memory> {
         let mut members = Map::new(alloc);
-        put(&mut members, alloc, Field::Events, &self.events)?;
-        put_some(&mut members, alloc, Field::After, &self.after)?;
-        put_unless_zero(&mut members, alloc, Field::Epoch, self.epoch)?;
+        put::<ListJson<EventJson>>(&mut members, alloc, Field::Events, &batch.events)?;
+        put_some::<AnyWhole>(&mut members, alloc, Field::After, &batch.after)?;
+        put_unless_zero(&mut members, alloc, Field::Epoch, batch.epoch)?;
         Ok(Value::Object(members))
     }
 }
@@ -157,5 +173,5 @@ pub fn write_batch(alloc: Global, batch: &Batch) -> Result<Value, Memory>
         ≡ Ok (record { epoch = batch.now.epoch; after = option_or batch.now.after held; events = batch.now.events })) }
     ensures no_float { IfOk result (λ v. has_float (view v) ≡ false) }
 {
-    batch.write(alloc)
+    BatchJson::write(alloc, batch)
 }
