@@ -49,7 +49,7 @@ nothing_before : (texts : Texts) → others [] texts ≡ texts
 nothing_before [] = refl
 nothing_before (text ∷ texts) = ap (λ (ts : Texts). text ∷ ts) (nothing_before texts)
 
--- a text is not among the earlier ones and one more, exactly if it is neither that one nor among them
+-- the disjunction of `a` and `b` is false exactly if both are false. Below, `a`: a text is among earlier texts; `b`: it equals one more.
 not_or : (a b : Bool) → not (a || (b || false)) ≡ (not b && not a)
 not_or true true = refl
 not_or true false = refl
@@ -188,7 +188,7 @@ fold_token t (x ∷ tokens) book =
     here true = refl
     here false = refl
 
--- a book is determined by its texts and the token of each text
+-- one more token at the front of a book doesn't change which tokens are found for other texts than its own
 same_later : (x : Token) (book tokens : List Token) → All (λ (t : Token). x.text ≢ t.text) tokens
     → filter_map (λ text. token_of text (x ∷ book)) (texts_of tokens) ≡ filter_map (λ text. token_of text book) (texts_of tokens)
 same_later x book [] other = refl

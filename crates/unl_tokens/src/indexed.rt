@@ -44,35 +44,35 @@ impl Indexed {
         }
     }
 
-    /// The number of tokens. Allocates nothing.
+    /// Returns the number of tokens. Allocates nothing.
     pub(crate) fn len(&self) -> usize
         ensures { result ≡ length self.now }
     {
         self.tokens.len()
     }
 
-    /// Whether both have the same tokens in the same order. Allocates nothing.
+    /// Returns whether both have the same tokens in the same order. Allocates nothing.
     pub(crate) fn is_same(&self, other: &Indexed) -> bool
         ensures { IsTrue result ↔ (self.now ≡ other.now) }
     {
         self.tokens == other.tokens
     }
 
-    /// The tokens in their order. Allocates nothing.
+    /// Returns the tokens in their order. Allocates nothing.
     pub(crate) fn tokens(&self) -> &List<Token>
         ensures { result.now ≡ self.now }
     {
         &self.tokens
     }
 
-    /// The tokens in their order, without the index.
+    /// Returns the tokens in their order, without the index.
     pub(crate) fn into_tokens(self) -> List<Token>
         ensures { result ≡ self }
     {
         self.tokens
     }
 
-    /// The position of the token with this text, or `None` if there is none. Allocates nothing.
+    /// Returns the position of the token with this text, counted from 0, or `None` if there is none. Allocates nothing.
     pub(crate) fn place_of(&self, text: &[u8]) -> Option<usize>
         ensures place { result ≡ place_of_text text.now self.now }
         ensures below { IfSome result (λ place. place < length self.now) }
@@ -107,7 +107,7 @@ impl TryClone for Indexed {
     }
 }
 
-/// The position of the token with this text, by linear search.
+/// Returns the position of the token with this text, found by linear search, or `None` if there is none.
 fn place_among(tokens: &List<Token>, text: &[u8]) -> Option<usize>
     ensures place { result ≡ place_of_text text.now tokens.now }
     ensures below { IfSome result (λ place. place < length tokens.now) }
@@ -118,7 +118,7 @@ fn place_among(tokens: &List<Token>, text: &[u8]) -> Option<usize>
         .position(|token| token.text.as_str().as_bytes() == text)
 }
 
-/// The point of a text in the index (see [`point_of`]), and the position of the token with this text, if there is one.
+/// Returns the point of a text in the index (see [`point_of`]), and the position of the token with this text, if any.
 fn search(tokens: &List<Token>, places: &List<usize>, text: &[u8]) -> (usize, Option<usize>)
     requires { IsTextIndex tokens.now places.now }
     ensures point { IsPointOf tokens.now text.now places.now result.0 }
@@ -130,7 +130,7 @@ fn search(tokens: &List<Token>, places: &List<usize>, text: &[u8]) -> (usize, Op
     (at, place_at(tokens, places, at, text))
 }
 
-/// The point in the index where the position of the token with this text is, or where it would be inserted.
+/// Returns the point in the index where the position of the token with this text is, or would be inserted.
 fn point_of(tokens: &List<Token>, places: &List<usize>, text: &[u8]) -> usize
     requires { IsTextIndex tokens.now places.now }
     ensures point { IsPointOf tokens.now text.now places.now result }
@@ -141,7 +141,7 @@ fn point_of(tokens: &List<Token>, places: &List<usize>, text: &[u8]) -> usize
         .partition_point(|place| text_at(tokens, *place).cmp(&text).is_lt())
 }
 
-/// The position stored at a point of the index, if the token there has this text.
+/// Returns the position stored at a point of the index, if the token at that position has this text.
 fn place_at(tokens: &List<Token>, places: &List<usize>, at: usize, text: &[u8]) -> Option<usize>
     ensures { result ≡ option_and_then (if_text tokens.now text.now) (slice_get places.now at) }
 {
@@ -152,7 +152,7 @@ fn place_at(tokens: &List<Token>, places: &List<usize>, at: usize, text: &[u8]) 
     None
 }
 
-/// The text of the token at a position, or an empty text past the end.
+/// Returns the text of the token at a position, or an empty text past the end.
 fn text_at(tokens: &List<Token>, place: usize) -> &[u8]
     ensures { result.now ≡ text_at tokens.now place }
 {

@@ -2,7 +2,7 @@
 ghost use Rattle.unl_tokens.specs.Laws.{DifferentAreKept, KnownOnce, LatestAreGathered, LatestAreRead};
 
 /// Gathering keeps one token for each text: the last token with that text, in the position of the first. A book read
-/// from a JSON value has the tokens that gathering keeps of the value's list.
+/// from a JSON value has the tokens that gathering keeps from the value's list `tokens`.
 pub fn latest_are_kept()
     ensures gathered { LatestAreGathered }
     ensures read { LatestAreRead }
