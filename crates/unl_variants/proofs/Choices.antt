@@ -12,7 +12,7 @@ use Rattle.unl_variants.proofs.Firsts.{first_at, first_only, some_passes}
 use Rattle.unl_variants.proofs.Reaching.{place_is_reached, reached_once}
 
 module _ (group : List ℕ) (vs : List Variant) (context : Fields) (random : ℕ) where
-  -- `target_of` is between 1 and the sum of the weights
+  -- if the sum of the weights is not 0, `target_of` is between 1 and this sum
   target_within : 0 < total_weight vs → (0 < target_of group vs context random) × (target_of group vs context random ≤ total_weight vs)
   unfolding target_of normalized_of
   target_within some = omega arith

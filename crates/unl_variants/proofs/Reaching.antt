@@ -1,4 +1,4 @@
--- The first index for which the sum of the weights up to and including it is at least a target.
+-- The first variant for which the sum of the weights up to and including its own is at least a target.
 use Rattle.std.proofs.Common.{◌≡◌, ℕ, zero, suc, ◌+◌, ◌*◌, ◌<◌, ◌≤◌, true, false, List, [], ◌∷◌, length, take, get_or, Option, Some, None, refl, sym, ap, subst, ◌∙◌, arith, inl, inr}
 use Rattle.std.specs.Prelude.{nat_le, position, is_some}
 use Rattle.std.specs.List.{list_any}
@@ -14,7 +14,7 @@ length_sums : (before : ℕ) (vs : List Variant) → length (sums_from before vs
 length_sums before [] = refl
 length_sums before (v ∷ vs) = ap suc (length_sums (before + v.weight) vs)
 
--- each item of `sums_from` is `before` plus the weights up to and including its index
+-- item `k` of `sums_from` is `before` plus the weights of the variants up to and including index `k`
 sum_at : (before : ℕ) (vs : List Variant) (k d : ℕ) → k < length vs → get_or (sums_from before vs) k d ≡ before + total_weight (take (suc k) vs)
 sum_at before [] k d inside = absurd (omega (arith, inside))
 sum_at before (v ∷ vs) zero d inside = rw sum_by-cons (omega arith)
@@ -49,7 +49,7 @@ place_by : (target : ℕ) (vs : List Variant) (found : Option ℕ) → 0 < targe
 place_by target vs None some is there = absurd (cc)
 place_by target vs (Some k) some is there = (k, refl, reached_first target vs k some (first_at (λ sum. nat_le target sum) (sums_from 0 vs) k is))
 
--- a target up to the sum of the weights is reached
+-- a target from 1 to the sum of the weights is reached, at the index that `place_reached` returns
 pub place_is_reached : (target : ℕ) (vs : List Variant) → 0 < target → target ≤ total_weight vs → (k : ℕ) × (place_reached target vs ≡ Some k) × IsReached target vs k
 unfolding place_reached
 place_is_reached target vs some far =

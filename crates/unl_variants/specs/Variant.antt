@@ -1,5 +1,5 @@
--- Which of a list of variants is chosen, as the Unleash reference on variants describes it. This project chose the seed,
--- and that the first variant's stickiness selects the id.
+-- Which of a list of variants is chosen, as the Unleash reference on variants describes it. The seed is that of Unleash's SDKs. One thing
+-- is a choice of this project: the stickiness of the first variant selects the id.
 use Rattle.std.specs.Prelude.{◌≡◌, ℕ, ◌+◌, ◌<◌, ◌≤◌, List, [], ◌∷◌, codes, length, take, Bool, true, false, ◌||◌, ◌==◌, nat_le}
 use Rattle.std.specs.Prelude.{position, MatchBool, Option, Some, None, unwrap_or, decimal, if◌then◌else◌}
 use Rattle.std.specs.List.{sum_by, list_any, HoldsAt, AllWithin}

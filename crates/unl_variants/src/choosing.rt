@@ -1,4 +1,5 @@
-//! Chooses one of a list of variants for a context: by overrides, otherwise by weights.
+//! Chooses one of a list of variants for a context, as the Unleash reference on variants describes: by overrides,
+//! otherwise by weights.
 ghost use Rattle.std.specs.Prelude.{◌≡◌, ◌==◌, ◌<◌, ℕ, Option, length, is_none, IfSome};
 ghost use Rattle.unl_variants.specs.Variant.{AreWithinLimits, IsChosen, choice_of, target_of, total_weight as total_weight_of};
 
@@ -10,8 +11,8 @@ use unl_context::Context;
 use unl_documents::{List, Variant};
 use unl_murmur::normalized;
 
-/// The seed of the hash by which a variant is chosen. Rollouts use seed 0. The seeds differ so that whether a rollout
-/// includes a context and which variant the context gets are decided by different hash functions.
+/// The seed of the hash by which a variant is chosen. Rollouts use seed 0. The seeds differ so that a rollout and the
+/// choice of a variant hash the same id differently.
 const SEED: u32 = 86_028_157;
 
 /// Returns the index of the variant chosen for a context, counted from 0. Returns `None` if and only if the weights sum
@@ -19,8 +20,8 @@ const SEED: u32 = 86_028_157;
 /// of at most 1,000.
 ///
 /// If a variant has an override for the context, the first such variant is chosen. Otherwise the choice is by weight:
-/// the hash of `group` and the id gives a number from 1 to the sum of all weights. The first variant is chosen for
-/// which the sum of the weights up to and including its own is at least this number. The id is the text that the
+/// the MurmurHash3 of `group` and the id gives a number from 1 to the sum of all weights. The first variant is chosen
+/// for which the sum of the weights up to and including its own is at least this number. The id is the text that the
 /// stickiness of the first variant selects from the context. If that is absent, the id is `random` in decimal.
 pub fn choose(
     group: &str,
