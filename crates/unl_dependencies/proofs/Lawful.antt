@@ -1,4 +1,4 @@
--- The laws of evaluations.
+-- Proofs of laws on evaluations: by name, exactly the features of the state are found, and a parent evaluates the same on its own.
 use Rattle.std.proofs.Common.{◌≡◌, ◌≢◌, ℕ, zero, suc, true, false, List, [], ◌∷◌, length, map, Option, Some, None, Less, nat_cmp, inl, inr, refl, ap, sym, ◌∙◌, subst}
 use Rattle.std.specs.Prelude.{◌↔◌, All, option_map, unwrap_or, slice_get}
 use Rattle.std.specs.Cmp.Lexicographic.{slice_cmp}

@@ -16,7 +16,8 @@ found_valid name [] f is valid = absurd (cc)
 found_valid name (x ∷ xs) f is valid =
     either (bytes_eq x.name name) x f (feature_named name xs) is (All-head IsValidFeature x xs valid) (λ later. found_valid name xs f later (All-tail IsValidFeature x xs valid))
 
--- The same for `found`, a reference to a value of another type that stands for the feature: `document` gives the feature of such a value.
+-- The same for features that are represented by values of another type `F`. `document` gives the feature of a value, and `found` refers to
+-- the value that was found, if any.
 pub named_valid : {F : Type 0} (document : F → Feature) (name : List ℕ) (features : List Feature) (found : Option (Bor F)) → option_map (λ f. document f.now) found ≡ feature_named name features → All IsValidFeature features → IfSome found (λ f. IsValidFeature (document f.now))
 named_valid document name features None is valid = tt
 named_valid document name features (Some f) is valid = found_valid name features (document f.now) (sym is) valid

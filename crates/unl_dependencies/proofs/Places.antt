@@ -1,4 +1,4 @@
--- The first active strategy is the one at the least index whose strategy is active, and the loop that looks for it finds it.
+-- `first_active` gives the least index whose strategy is active, and a loop over the indexes in ascending order finds this index.
 use Rattle.std.proofs.Common.{◌≡◌, ℕ, zero, suc, ◌+◌, ◌<◌, Bool, true, false, cond, List, [], ◌∷◌, length, drop, Option, Some, None, inl, inr, refl, ap, sym, ◌∙◌, subst, arith}
 use Rattle.std.specs.Prelude.{◌↔◌, slice_get, unwrap_or}
 use Rattle.std.specs.Option.{option_map_or}

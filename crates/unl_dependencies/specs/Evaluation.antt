@@ -1,5 +1,5 @@
--- The evaluation of a feature for a context at a moment: whether it is on, and its variant, by the Unleash references on
--- strategies, variants and dependencies.
+-- The evaluation of a feature for a context (the data about a user) at a moment (the time, the source of random numbers and the host
+-- name): whether the feature is on, and its variant, by the Unleash references on strategies, variants and dependencies.
 use Rattle.std.specs.Prelude.{ℕ, ◌+◌, List, [], ◌∷◌, codes, length, Bool, true, false, not, ◌&&◌, ◌||◌, ◌==◌, Option, Some, None, is_some}
 use Rattle.std.specs.Prelude.{option_map, option_and_then, slice_get, if◌then◌else◌}
 use Rattle.std.specs.List.{list_all, find}

@@ -58,8 +58,8 @@ NoneIsActive = (f : Feature) (segments : List Segment) (context : Fields) (momen
 abbrev pub if_seen : (List ℕ → Bool) → Feature → Option Feature
 if_seen sees f = if sees f.project then Some f else None
 
--- Let the names of the features be strictly ascending. Looking up a name among the features of visible projects gives the feature with that
--- name among all features if this feature's project is visible, and otherwise none.
+-- Suppose that the names of the features are strictly ascending. Then looking up a name among the features of visible projects gives the
+-- feature with that name if its project is visible, and none if it isn't or if no feature has the name.
 abbrev pub SeenAmongAll : Type 0
 SeenAmongAll = (sees : List ℕ → Bool) (name : List ℕ) (features : List Feature)
     → AreRising (map name_key features) → feature_named name (filter (λ f. sees f.project) features)

@@ -1,4 +1,5 @@
-//! Decides whether the dependencies of a feature on other features (its parents) are met.
+//! Decides whether the dependencies of a feature on other features (its parents) are met, by the Unleash reference on
+//! dependencies.
 ghost use Rattle.std.specs.Prelude.{◌≡◌, IfOk};
 ghost use Rattle.unl_documents.specs.States.{IsValidState};
 ghost use Rattle.unl_documents.specs.Valid.{IsValidFeature};

@@ -1,4 +1,5 @@
-//! Evaluates a feature of a state for a context, including its dependencies.
+//! Evaluates a feature of a state, including its dependencies, for a context (the data about a user) at a moment (the
+//! time, the source of random numbers and the host name).
 ghost use Rattle.std.specs.Prelude.{◌≡◌, IfOk};
 ghost use Rattle.unl_documents.specs.States.{IsValidState};
 ghost use Rattle.unl_documents.specs.Valid.{IsValidFeature};

@@ -25,7 +25,7 @@ pub trait Features {
     /// The document of a feature.
     ghost document: { Self.Feature → FeatureDocument };
 
-    /// Returns the feature with the given name, if there is one. Does not allocate.
+    /// Returns the first feature with the given name, if there is one. Does not allocate.
     fn named(&self, name: &str) -> Option<&Self::Feature>
         ensures { option_map (λ f. document f.now) result ≡ feature_with name.now (state self.now).features };
 
@@ -33,8 +33,8 @@ pub trait Features {
     fn document(feature: &Self::Feature) -> &Feature
         ensures { result.now ≡ document feature.now };
 
-    /// Whether a feature has a strategy at the index `place`, from 0, and that strategy is active. The only error is
-    /// out of memory.
+    /// Whether a feature has a strategy at the index `place`, from 0, and that strategy is active: it accepts the
+    /// context. The only error is out of memory.
     fn is_active(
         &self,
         alloc: Global,
@@ -85,7 +85,8 @@ impl Features for State {
     }
 }
 
-/// Returns the feature with the given name, if there is one. The state is valid, so the feature is within its limits.
+/// Returns the first feature with the given name, if there is one. The state is valid, so the feature is within its
+/// limits.
 pub(crate) fn valid_named<'a, F: Features>(features: &'a F, name: &str) -> Option<&'a F::Feature>
     requires valid { IsValidState (F.state features.now) }
     ensures value { option_map (λ f. F.document f.now) result ≡ feature_with name.now (F.state features.now).features }

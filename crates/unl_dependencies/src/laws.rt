@@ -31,8 +31,9 @@ pub fn first_is_least()
     ensures none { NoneIsActive }
 {}
 
-/// Let the names of the features be strictly ascending. Looking up a name among the features of visible projects
-/// returns the feature with that name among all features if this feature's project is visible, and otherwise `None`.
+/// Suppose that the names of the features are strictly ascending. Then looking up a name among the features of visible
+/// projects returns the feature with that name if its project is visible, and `None` if it isn't or if no feature has
+/// the name.
 pub fn seen_among_all()
     ensures { SeenAmongAll }
 {}

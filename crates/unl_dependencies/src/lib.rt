@@ -1,4 +1,5 @@
-//! Evaluates features: whether a feature is on for a context at a moment, and with which variant.
+//! Evaluates features: whether a feature is on, and with which variant, for a context (the data about a user) at a
+//! moment (the time, the source of random numbers and the host name).
 #![tactic(auto)]
 
 mod dependencies;

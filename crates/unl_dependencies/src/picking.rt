@@ -169,8 +169,8 @@ pub fn own_variant<'a>(
     )
 }
 
-/// As `variant_in`, with a random id that is derived from the random number of the feature for the purpose `mark`. That
-/// number is computed only if there are variants.
+/// Like `variant_in`, with a random id that comes from a random number for the feature and `mark`. The mark says
+/// whether the variants are a strategy's or the feature's own. The number is computed only if there are variants.
 #[tactic(auto, unfolding(crate::specs::Evaluation::variant_in, unl_variants::specs::Variant::choice_of))]
 fn variant_drawn<'a>(
     group: &str,
@@ -192,8 +192,8 @@ fn variant_drawn<'a>(
 }
 
 /// Returns the first variant with an override for the context, or else one chosen by weight. Returns `None` if the
-/// weights sum to 0. The choice by weight hashes `group` and the text of the context that the stickiness selects. If
-/// the stickiness selects no text, the id `random` is hashed instead of the text.
+/// weights sum to 0, even if there is such an override. The choice by weight hashes `group` and the text of the context
+/// that the stickiness selects. If the stickiness selects no text, the random id `random` is hashed instead.
 #[tactic(auto, unfolding(crate::specs::Evaluation::variant_in))]
 fn variant_in<'a>(
     group: &str,
