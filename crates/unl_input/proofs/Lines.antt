@@ -157,8 +157,8 @@ pub take_of_first : {A : Type 0} (xs : List A) (most k : ℕ) → k ≤ length (
 take_of_first xs most k within =
     sym (take-append-le k (take most xs) (drop most xs) within) ∙ ap (take k) (take-append-drop most xs)
 
--- one step of the reader: `prefix` is the part of the held bytes that may belong to the line, `k` is the position of its first
--- line feed or its length, and the bytes before that are appended to the line
+-- one step of the reader: `prefix` is the first `most` held bytes; `k` is the position of the first line feed in `prefix`, or the length
+-- of `prefix` if it has none; and `after` is `line` with the first `k` bytes of `prefix` appended
 abbrev pub Looks : List ℕ → List ℕ → ℕ → List ℕ → ℕ → List ℕ → Type 0
 Looks line held most prefix k after = (prefix ≡ take most held) × (k ≡ position_or_len is_end prefix) × (after ≡ line ++ take k prefix)
 
@@ -228,7 +228,7 @@ piece_grows line held most prefix k after rest looks room some all is =
 
 -- ---- complete lines
 
--- The bytes are complete lines: the bytes that follow them begin a new line.
+-- The bytes are complete lines: each line ends with a line feed, and the bytes that follow begin a new line.
 pub record IsWhole (bytes : List ℕ) : Type 0 where
   pub first : (rest : List ℕ) → lines (bytes ++ rest) ≡ lines bytes ++ lines rest
   pub ends : count_by is_end bytes ≡ length (lines bytes)

@@ -26,7 +26,7 @@ pub refused_as_too_large : {T : Type 0} (reads : List ℕ → Reading T) (bytes 
 unfolding input_outcome
 refused_as_too_large reads bytes long = rw (lt-ltb 16777216 (length bytes) long) refl
 
--- The case that too many bytes were read.
+-- The effect of answering if too many bytes were read.
 pub ends_too_large : {T : Type 0} (reads : List ℕ → Reading T) (says : T → List ℕ) (left left_after old : Option (List ℕ))
     → HasRead (Err input.TooLarge) left left_after → AnsweringEnds reads says (Err (Refused TooLarge)) left left_after old old
 ends_too_large reads says left left_after old read = record {
@@ -34,7 +34,7 @@ ends_too_large reads says left left_after old read = record {
   silent = refl;
 }
 
--- The case that the input has a fault.
+-- The effect of answering if the input has a fault.
 pub ends_refused : {T : Type 0} (fault : BadDocument) (reads : List ℕ → Reading T) (says : T → List ℕ) (left left_after old : Option (List ℕ)) (bytes : List ℕ)
     → HasRead (Ok bytes) left left_after → reads bytes ≡ Err fault → AnsweringEnds reads says (Err (Refused (BadInput fault))) left left_after old old
 ends_refused fault reads says left left_after old bytes read is = record {
@@ -42,7 +42,7 @@ ends_refused fault reads says left left_after old bytes read is = record {
   silent = refl;
 }
 
--- The case that the whole text was sent.
+-- The effect of answering if the whole text of the answer was sent.
 pub ends_answered : {T : Type 0} (answer : T) (reads : List ℕ → Reading T) (says : T → List ℕ) (left left_after old new : Option (List ℕ)) (bytes : List ℕ)
     → HasRead (Ok bytes) left left_after → reads bytes ≡ Ok answer → Sends old (says answer) new → AnsweringEnds reads says (Ok answer) left left_after old new
 ends_answered answer reads says left left_after old new bytes read is sent = record {
@@ -50,7 +50,7 @@ ends_answered answer reads says left left_after old new bytes read is sent = rec
   sent = sent;
 }
 
--- The case that a prefix of the text was sent.
+-- The effect of answering if a prefix of the text of the answer was sent.
 pub ends_broken : {T : Type 0} (answer : T) (reads : List ℕ → Reading T) (says : T → List ℕ) (left left_after old new : Option (List ℕ)) (bytes : List ℕ)
     → HasRead (Ok bytes) left left_after → reads bytes ≡ Ok answer → SendsPrefix old (says answer) new → AnsweringEnds reads says (Err WriteFault) left left_after old new
 ends_broken answer reads says left left_after old new bytes read is sent = record {

@@ -22,7 +22,7 @@ nothing_taken : (room : List ℕ) (c : Option (List ℕ)) → option_map (λ res
 nothing_taken room None = refl
 nothing_taken room (Some z) = refl
 
--- A read of no bytes marks the end.
+-- If a read at the end of the source returns no bytes, the bytes taken before are the whole input.
 pub takes_end : (a b c : Option (List ℕ)) (xs room : List ℕ) (n : ℕ) → n ≡ 0 → Takes a xs b → Takes b (take n room) c → HasEnded b → IsWholeInput a xs c
 takes_end a b c xs room n none took last end =
     let same : b ≡ c = last ∙ ap (λ k. option_map (λ rest. take k room ++ rest) c) none ∙ nothing_taken room c in

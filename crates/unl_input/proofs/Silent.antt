@@ -10,7 +10,7 @@ use Rattle.unl_input.specs.Whole.{AnswersFirst, TakesLines}
 use Rattle.unl_input.specs.declared.taking.LinesFault.TheVariants.{Memory}
 use Rattle.unl_input.specs.Laws.{IsSilent, PrintsCauseAlone}
 
--- a line that isn't refused is within the limits
+-- if a line isn't refused when the limits are checked, its result is the same without the check
 pub within_limits_of : {D : Type 0} (taking : Taking D) (d : D) (line : List ℕ) (k : ℕ) (taken : Taken D) → take_line taking k d line ≡ Ok taken
     → taking k d line ≡ Ok taken
 within_limits_of taking d line k taken is = limited (ltb most_lines k) (ltb longest_line (length line)) is

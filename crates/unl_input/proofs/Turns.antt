@@ -127,7 +127,7 @@ pub runs_out : {D : Type 0} (before after : LinesScene D) → BeginsLine before.
     → RunsOutAtLine before after
 runs_out before after begun same = record { out = begun.prefix; got = begun.got; sent = same }
 
--- one more byte begins line 1,000,001, which is past the limit: the effect of processing all lines
+-- the effect of processing all lines, if one more byte begins line 1,000,001, which is past the limit
 pub ends_past : {D : Type 0} (taking : Taking D) (first : D) (fault : LinesFault) (start sent : Option (List ℕ)) (k : ℕ) (before after : LinesScene D) (b : ℕ)
     → k ≡ 1000001 → Sofar taking first start sent k before → ConsumesBytes before (b ∷ []) after
     → PrintsCause fault 1000001 (codes "TooManyLines") before.sent after.sent

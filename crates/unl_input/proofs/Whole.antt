@@ -59,7 +59,7 @@ prints_first : {D : Type 0} (k : ℕ) (d : D) (comes : LineResult D) (next : D �
 prints_first k d (Ok taken) next = (whole_text (next taken.desk), append_assoc taken.text (next taken.desk).text (ending_text (next taken.desk).ending))
 prints_first k d (Err cause) next = ([], sym (append-nil (refused_text k cause)))
 
--- the effect of a turn whose line was not processed in full
+-- the effect of a turn that failed, from the result of its line, the bytes consumed and the text sent
 pub errs : {D : Type 0} (taking : Taking D) (fault : LinesFault) (k : ℕ) (before after : LinesScene D) (out : List ℕ) (comes : LineResult D) (desk : D)
     → Prints (Err fault) k comes desk before.sent after.sent → ConsumesBytes before out after → Heads taking k before.desk out after comes
     → HasTurnEffect taking (Err fault) k before after
@@ -116,7 +116,7 @@ processes_line taking first start sent k before after sofar now =
 
 -- ---- the effect of processing all lines
 
--- the whole input was processed; this does not depend on whether it is observable
+-- the whole input was processed, whether or not the input is observable
 pub ends_all : {D : Type 0} (taking : Taking D) (first : D) (start sent : Option (List ℕ)) (k : ℕ) (before after : LinesScene D)
     → Sofar taking first start sent k before → ReachesEnd taking k before after
     → AnswersAllLines taking first after.desk start after.left sent after.sent

@@ -58,14 +58,14 @@ pub record RefusesSilently {T : Type 0} (reads : List ℕ → Reading T) (refusa
   pub comes : HasOutcome reads (Err refusal) left left_after
   pub silent : new ≡ old
 
--- The input has an answer, and a prefix of its text was sent.
+-- The input has an answer, and a prefix of the answer's text was sent.
 pub record SaysAnswerPrefix {T : Type 0} (reads : List ℕ → Reading T) (says : T → List ℕ)
     (left left_after old new : Option (List ℕ)) : Type 0 where
   pub answer : T
   pub prefix : SaysPrefix reads says (Ok answer) left left_after old new
 
 -- The effect of answering an input, by its result. `left` and `left_after` are the bytes still to be read from the source
--- before and after, and `old` and `new` are the bytes sent to the sink before and after.
+-- before and after, and `old` and `new` are the bytes sent to the sink before and after. Each is `None` if it is not observable.
 abbrev pub AnsweringEnds : {T : Type 0} → (List ℕ → Reading T) → (T → List ℕ) → Result T AnswerFault
     → Option (List ℕ) → Option (List ℕ) → Option (List ℕ) → Option (List ℕ) → Type 0
 AnsweringEnds reads says (Ok answer) left left_after old new = Says reads says (Ok answer) left left_after old new

@@ -33,8 +33,8 @@ abbrev pub Fills : Bool → List ℕ → Option (List ℕ) → List ℕ → Opti
 Fills true held left held_after left_after = Gets held left [] held_after left_after × (0 < length held_after)
 Fills false held left held_after left_after = Gets held left [] held_after left_after × IsAtEnd held_after left_after
 
--- The rest of a line and its line feed were removed from the start of the held bytes. `line` is the part of the line from before, and
--- `line_after` is the whole line, which is within the limit.
+-- The rest of a line and its line feed were removed from the start of the held bytes. `line` is the part of the line that was removed
+-- earlier, and `line_after` is the whole line, which is within the limit.
 pub record EndsLine (line held line_after held_after : List ℕ) : Type 0 where
   pub piece : List ℕ
   pub unbroken : has_end piece ≡ false
@@ -42,8 +42,8 @@ pub record EndsLine (line held line_after held_after : List ℕ) : Type 0 where
   pub short : length line_after ≤ longest_line
   pub split : held ≡ piece ++ 10 ∷ held_after
 
--- At least one byte, and no line feed, was removed from the start of the held bytes. `line` is the part of the line from before, and
--- `line_after` has these bytes appended.
+-- At least one byte, and no line feed, was removed from the start of the held bytes. `line` is the part of the line that was removed
+-- earlier, and `line_after` is `line` with the bytes removed now appended.
 pub record GrowsLine (line held line_after held_after : List ℕ) : Type 0 where
   pub piece : List ℕ
   pub unbroken : has_end piece ≡ false

@@ -76,7 +76,7 @@ pub record IsRefusedAt {D : Type 0} (taking : Taking D) (k : ℕ) (before after 
 abbrev pub TextBeginsWith : {D : Type 0} → List ℕ → LinesOutcome D → Type 0
 TextBeginsWith text outcome = (tail : List ℕ) × (whole_text outcome ≡ text ++ tail)
 
--- a prefix of what is printed from line `k` on was sent, no matter which bytes follow
+-- what was sent is, no matter which bytes follow, a prefix of the text that is printed from line `k` on
 pub record PrintsPrefix {D : Type 0} (taking : Taking D) (k : ℕ) (before after : LinesScene D) : Type 0 where
   pub out : List ℕ
   pub text : List ℕ

@@ -52,8 +52,8 @@ pub enum AnswerFault {
     Memory,
 }
 
-/// Reads an input to its end, computes its answer and writes the answer's text. Nothing is written before the whole
-/// input is read and accepted.
+/// Reads an input to its end, computes its answer, writes the answer's text and returns the answer. Nothing is written
+/// before the whole input is read and accepted.
 ///
 /// # Errors
 /// - `Refused` with `TooLarge` if the input has more than 16,777,216 bytes. Nothing is written.

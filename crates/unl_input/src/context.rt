@@ -14,8 +14,8 @@ use unl_documents::{BadDocument, Field};
 /// Reads the context at the key `context` of an object. If the key is absent or null, the context is empty.
 ///
 /// # Errors
-/// `WrongKind` or `TooLarge` with the field `Context`, for a fault in any part of the context, or `Memory` if memory
-/// ran out.
+/// For a fault in any part of the context, `WrongKind` or `TooLarge` with the field `Context` (and 0 as the size in
+/// `TooLarge`). `Memory` if memory ran out.
 #[tactic(auto, unfolding(crate::specs::Contexts::context_in))]
 pub fn context_in(alloc: Global, value: &Value) -> Result<Context, BadDocument>
     ensures { Gives result (context_in (view value.now)) }
@@ -36,8 +36,8 @@ fn context_of(alloc: Global, value: &Value) -> Result<Context, BadDocument>
     }
 }
 
-/// Converts the fault of a context to the fault of a document at the key `context`. Drops which part of the context is
-/// at fault. `TooLarge` carries 0 in place of a size.
+/// Converts the fault of a context to the fault of a document at the key `context`. The result does not say which part
+/// of the context is at fault. `TooLarge` carries 0 in place of a size.
 fn context_fault(fault: BadContext) -> BadDocument
     ensures { result ≡ context_fault fault }
 {

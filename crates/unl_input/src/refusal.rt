@@ -30,7 +30,8 @@ pub enum WriteLineFault {
     Memory,
 }
 
-/// Writes the line `refused: <cause>`, which reports why an input is refused.
+/// Writes the line `refused: <cause>`, which reports why an input is refused. The cause is `TooLarge`, or the text of
+/// the input's first fault.
 ///
 /// # Errors
 /// `WriteFault` if the sink failed; a prefix of the line was sent. `Memory` if memory ran out; nothing was sent.

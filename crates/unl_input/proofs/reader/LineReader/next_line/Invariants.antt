@@ -3,7 +3,7 @@ use Rattle.unl_input.specs.Lines.{has_end}
 use Rattle.unl_input.specs.Reading.{Gets}
 use Rattle.unl_input.proofs.reader.LineReader.next_line.Given as goal
 
--- the part of the line so far was consumed, and has no line feed
+-- the part of the line so far was consumed and has no line feed, and the source's fault count has not fallen
 abbrev pub invariant-pieces : goal.invariant-pieces
 invariant-pieces g l = record {
   got : Gets l.initial.self (g.S.Source.left l.initial.source) l.line.items l.self (g.S.Source.left l.source);
