@@ -1,4 +1,5 @@
--- The parts of an explanation together determine its evaluation.
+-- Proofs of the laws on explanations: the evaluation in an explanation is the feature's, and the results for the parts determine
+-- whether the feature is on and which strategies are active.
 use Rattle.std.proofs.Common.{◌≡◌, ℕ, ◌+◌, suc, Bool, true, false, cond, List, [], ◌∷◌, length, map, Option, Some, None, refl, ap, ◌∙◌}
 use Rattle.std.specs.Prelude.{All, IfSome, ◌&&◌, ◌||◌, ◌==◌, is_some, option_map}
 use Rattle.std.specs.List.{list_all}

@@ -1,4 +1,4 @@
--- Laws on explanations. An explanation says why a feature is on or off: it has the feature's evaluation and the results for the
+-- Laws about explanations. An explanation says why a feature is on or off: it has the feature's evaluation and the results for the
 -- parts of that evaluation. The laws relate these results to the evaluation.
 use Rattle.std.specs.Prelude.{◌≡◌, ℕ, List, All, IfSome, length, Bool, ◌&&◌, ◌||◌, ◌==◌, is_some, option_map}
 use Rattle.std.specs.List.{list_all}
@@ -11,7 +11,7 @@ use Rattle.unl_explain.specs.declared.reason.SegmentReason.{SegmentReason}
 use Rattle.unl_explain.specs.declared.reason.StrategyReason.{StrategyReason}
 use Rattle.unl_explain.specs.Reasons.{reasons_of}
 
--- The evaluation in an explanation is the feature's evaluation, and there is an explanation exactly if there is an evaluation.
+-- The evaluation in an explanation is the feature's evaluation, and there is an explanation if and only if there is an evaluation.
 abbrev pub EvaluationIsExplained : Type 0
 EvaluationIsExplained = (state : State) (name : List ℕ) (context : Fields) (moment : Moment)
     → option_map (λ r. r.evaluation) (reasons_of state name context moment) ≡ evaluation_of state name context moment
@@ -34,12 +34,12 @@ is_found_and_holds s = s.found && all_true s.constraints
 abbrev pub is_active_by_parts : StrategyReason → Bool
 is_active_by_parts s = all_true s.constraints && (list_all is_found_and_holds s.segments && s.rule)
 
--- In each explanation, the evaluation says that the feature is on exactly if the feature is on by the results in the explanation.
+-- In each explanation, the evaluation says that the feature is on if and only if the feature is on by the results in the explanation.
 abbrev pub OnIsExplained : Type 0
 OnIsExplained = (state : State) (name : List ℕ) (context : Fields) (moment : Moment)
     → IfSome (reasons_of state name context moment) (λ r. r.evaluation.on ≡ is_on_by_parts r)
 
--- In each explanation, each strategy is active exactly if it is active by the results for the strategy.
+-- In each explanation, each strategy is active if and only if it is active by the results for the strategy.
 abbrev pub ActiveIsExplained : Type 0
 ActiveIsExplained = (state : State) (name : List ℕ) (context : Fields) (moment : Moment)
     → IfSome (reasons_of state name context moment) (λ r. All (λ s. s.active ≡ is_active_by_parts s) r.strategies)

@@ -11,7 +11,7 @@ use Rattle.unl_documents.specs.States.{IsValidState, state_of}
 use Rattle.unl_explain.specs.declared.question.Question.{Question}
 use Rattle.unl_input.specs.Contexts.{context_in}
 
--- The latest time that is accepted, in milliseconds since 1970.
+-- The latest time that is accepted, in milliseconds since 1970. This limit is chosen by this project.
 abbrev pub last_moment : ℕ
 last_moment = 100000000000000
 

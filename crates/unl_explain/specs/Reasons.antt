@@ -1,5 +1,6 @@
--- The explanation why a feature is on or off for a context at a moment: the evaluation of the feature and the result of each part
--- of the evaluation, by the same definitions as the evaluation. A parent is a feature that the explained feature depends on.
+-- The explanation of why a feature is on or off for a context at a moment (a time, a random word and a host name): the evaluation of
+-- the feature, and the results for the parts of the evaluation, computed with the same definitions. A parent is a feature that the
+-- explained feature depends on.
 use Rattle.std.specs.Prelude.{ℕ, ◌+◌, List, [], ◌∷◌, map, length, Bool, true, false, ◌==◌, Option, is_some, option_map, option_and_then}
 use Rattle.std.specs.Prelude.{if◌then◌else◌}
 use Rattle.std.specs.Option.{option_map_or}

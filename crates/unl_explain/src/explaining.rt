@@ -14,11 +14,12 @@ use unl_dependencies::{evaluate_feature, feature_named, first_active};
 use unl_documents::{Feature, Memory, State};
 use unl_strategies::Moment;
 
-/// Explains why the feature with the given name is on or off for a context at a moment. The state must be valid: its
-/// features and segments are within their limits, and feature names and segment ids increase strictly. The only error
-/// is out of memory. The result is `Ok(None)` exactly if the call succeeds and the state has no feature with that name.
-/// The evaluation in the explanation is the one that [`evaluate`](unl_dependencies::evaluate) returns. Every dependency
-/// and every strategy is explained, even if the feature is off.
+/// Explains why the feature with the given name is on or off for a context at a moment (a time, a random word and a
+/// host name). The state must be valid: its features and segments are within their limits, and feature names and
+/// segment ids increase strictly. The only error is out of memory. On success, the result is `None` if and only if the
+/// state has no feature with that name. The evaluation in the explanation is the one that
+/// [`evaluate`](unl_dependencies::evaluate) returns. Every dependency and every strategy is explained, even if the
+/// feature is off.
 #[tactic(auto, unfolding(crate::specs::Reasons::reasons_of))]
 pub fn explain(
     alloc: Global,

@@ -12,8 +12,9 @@ use crate::reason::{Origin, ParentCause, ParentReason, Reason, SegmentReason, St
 use serde_json::{Map, Value};
 use std::alloc::{AllocError, Global};
 use unl_dependencies::{Evaluation, VariantAnswer};
-use unl_documents::to_value::{ToValue, put, put_some};
-use unl_documents::{Field, List, Memory};
+use unl_documents::kind::{AnyText, AnyWhole, Boolean};
+use unl_documents::to_value::{ListJson, ToValue, put, put_some};
+use unl_documents::{Field, List, Memory, PayloadJson};
 
 /// Returns the line for an explanation: a JSON object with its keys in byte order, or `null` if there is no explanation
 /// (the state lacks the feature).
@@ -72,14 +73,20 @@ fn reason_value(alloc: Global, reason: &Reason) -> Result<Value, Memory>
     ensures { IfOk result (λ v. view v ≡ reason_data reason.now) }
 {
     let mut members = Map::new(alloc);
-    put(&mut members, alloc, Field::Strategies, &reason.strategies)?;
+    put::<ListJson<StrategyReasonJson>>(
+        &mut members,
+        alloc,
+        Field::Strategies,
+        &reason.strategies,
+    )?;
     put_at(
         &mut members,
         alloc,
         "source",
         origin_value(alloc, reason.source)?,
     )?;
-    put_at(&mut members, alloc, "parents", reason.parents.write(alloc)?)?;
+    let parents = ListJson::<ParentReasonJson>::write(alloc, &reason.parents)?;
+    put_at(&mut members, alloc, "parents", parents)?;
     put_at(&mut members, alloc, "first", first_value(reason.first))?;
     put_at(
         &mut members,
@@ -87,7 +94,7 @@ fn reason_value(alloc: Global, reason: &Reason) -> Result<Value, Memory>
         "evaluation",
         evaluation_value(alloc, &reason.evaluation)?,
     )?;
-    put(&mut members, alloc, Field::Enabled, &reason.enabled)?;
+    put::<Boolean>(&mut members, alloc, Field::Enabled, &reason.enabled)?;
     Ok(Value::Object(members))
 }
 
@@ -138,27 +145,32 @@ fn variant_value(alloc: Global, variant: &VariantAnswer) -> Result<Value, Memory
     ensures { IfOk result (λ v. view v ≡ variant_data variant.now) }
 {
     let mut members = Map::new(alloc);
-    put(&mut members, alloc, Field::Name, &variant.name)?;
-    put(&mut members, alloc, Field::Enabled, &variant.enabled)?;
-    put_some(&mut members, alloc, Field::Payload, &variant.payload)?;
+    put::<AnyText>(&mut members, alloc, Field::Name, &variant.name)?;
+    put::<Boolean>(&mut members, alloc, Field::Enabled, &variant.enabled)?;
+    put_some::<PayloadJson>(&mut members, alloc, Field::Payload, &variant.payload)?;
     Ok(Value::Object(members))
 }
 
-impl ToValue for ParentReason {
+/// How the reason for a parent is written as a JSON object.
+struct ParentReasonJson;
+
+impl ToValue for ParentReasonJson {
+    type In = ParentReason;
+
     ghost written = { parent_data };
 
     #[tactic(auto, unfolding(crate::specs::Line::parent_data))]
-    fn write(&self, alloc: Global) -> Result<Value, Memory> {
+    fn write(alloc: Global, reason: &ParentReason) -> Result<Value, Memory> {
         let mut members = Map::new(alloc);
-        put_at(&mut members, alloc, "met", Value::from(self.met))?;
-        put(&mut members, alloc, Field::Feature, &self.feature)?;
+        put_at(&mut members, alloc, "met", Value::from(reason.met))?;
+        put::<AnyText>(&mut members, alloc, Field::Feature, &reason.feature)?;
         put_at(
             &mut members,
             alloc,
             "cause",
-            cause_value(alloc, &self.cause)?,
+            cause_value(alloc, &reason.cause)?,
         )?;
-        put_variant(&mut members, alloc, &self.cause)?;
+        put_variant(&mut members, alloc, &reason.cause)?;
         Ok(Value::Object(members))
     }
 }
@@ -186,35 +198,45 @@ fn put_variant(
         ≡ with_some field.Variant (option_map string (parent_variant cause.now)) (members_view members.old.entries)) }
 {
     match cause {
-        ParentCause::On(variant) => put(members, alloc, Field::Variant, variant),
+        ParentCause::On(variant) => put::<AnyText>(members, alloc, Field::Variant, variant),
         ParentCause::Absent | ParentCause::HasParents | ParentCause::Off => Ok(()),
     }
 }
 
-impl ToValue for StrategyReason {
+/// How the reason for a strategy is written as a JSON object.
+struct StrategyReasonJson;
+
+impl ToValue for StrategyReasonJson {
+    type In = StrategyReason;
+
     ghost written = { strategy_data };
 
     #[tactic(auto, unfolding(crate::specs::Line::strategy_data))]
-    fn write(&self, alloc: Global) -> Result<Value, Memory> {
+    fn write(alloc: Global, reason: &StrategyReason) -> Result<Value, Memory> {
         let mut members = Map::new(alloc);
-        put(&mut members, alloc, Field::Segments, &self.segments)?;
-        put_at(&mut members, alloc, "rule", Value::from(self.rule))?;
-        put(&mut members, alloc, Field::Name, &self.name)?;
-        put(&mut members, alloc, Field::Constraints, &self.constraints)?;
-        put_at(&mut members, alloc, "active", Value::from(self.active))?;
+        put::<ListJson<SegmentReasonJson>>(&mut members, alloc, Field::Segments, &reason.segments)?;
+        put_at(&mut members, alloc, "rule", Value::from(reason.rule))?;
+        put::<AnyText>(&mut members, alloc, Field::Name, &reason.name)?;
+        put::<ListJson<Boolean>>(&mut members, alloc, Field::Constraints, &reason.constraints)?;
+        put_at(&mut members, alloc, "active", Value::from(reason.active))?;
         Ok(Value::Object(members))
     }
 }
 
-impl ToValue for SegmentReason {
+/// How the reason for a segment is written as a JSON object.
+struct SegmentReasonJson;
+
+impl ToValue for SegmentReasonJson {
+    type In = SegmentReason;
+
     ghost written = { segment_data };
 
     #[tactic(auto, unfolding(crate::specs::Line::segment_data))]
-    fn write(&self, alloc: Global) -> Result<Value, Memory> {
+    fn write(alloc: Global, reason: &SegmentReason) -> Result<Value, Memory> {
         let mut members = Map::new(alloc);
-        put(&mut members, alloc, Field::Id, &self.id)?;
-        put_at(&mut members, alloc, "found", Value::from(self.found))?;
-        put(&mut members, alloc, Field::Constraints, &self.constraints)?;
+        put::<AnyWhole>(&mut members, alloc, Field::Id, &reason.id)?;
+        put_at(&mut members, alloc, "found", Value::from(reason.found))?;
+        put::<ListJson<Boolean>>(&mut members, alloc, Field::Constraints, &reason.constraints)?;
         Ok(Value::Object(members))
     }
 }

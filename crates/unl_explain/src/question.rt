@@ -11,35 +11,40 @@ use unl_documents::document::{Document, Object, read_document};
 use unl_documents::keys::{defaulted, required};
 use unl_documents::kind::{AnyWhole, Name, Whole};
 use unl_documents::parsing::read_json;
-use unl_documents::{BadDocument, Field, State, Text};
+use unl_documents::{BadDocument, Field, State, StateJson, Text};
 use unl_input::context_in;
 
-/// The latest time that is accepted, in milliseconds since 1970.
+/// The latest time that is accepted, in milliseconds since 1970. This limit is chosen by this project.
 const LAST_MOMENT: u64 = 100_000_000_000_000;
 
 /// The question why a feature of a state is on or off for a context, at a time and with a random word.
 #[derive(Drop)]
 pub(crate) struct Question {
-    /// The state that contains the feature.
+    /// The state, which may lack the feature.
     pub(crate) state: State,
     /// The feature's name.
     pub(crate) feature: Text,
     /// The context that the feature is evaluated for.
     pub(crate) context: Context,
-    /// The time of the evaluation, in milliseconds since 1970.
+    /// The time of the evaluation, in milliseconds since 1970, at most `LAST_MOMENT`.
     pub(crate) now: u64,
     /// The 64-bit word from which the random numbers of the evaluation are derived.
     pub(crate) word: u64,
 }
 
-impl Document for Question {
+/// How a question is read from a JSON object.
+struct QuestionJson;
+
+impl Document for QuestionJson {
+    type Out = Question;
+
     ghost reads_object = { question_of };
 
     ghost is_valid = { IsValidQuestion };
 
     #[tactic(auto, unfolding(crate::specs::Question::question_of))]
     fn read_object(alloc: Global, value: &Value) -> Result<Question, BadDocument> {
-        let state = required::<Object<State>>(alloc, Field::State, value)?;
+        let state = required::<Object<StateJson>>(alloc, Field::State, value)?;
         let feature = required::<Name>(alloc, Field::Feature, value)?;
         let context = context_in(alloc, value)?;
         let now = defaulted::<Whole<LAST_MOMENT>>(alloc, 0, Field::Now, value)?;
@@ -68,5 +73,5 @@ pub(crate) fn question_in(alloc: Global, bytes: &[u8]) -> Result<Question, BadDo
     let Some(value) = read_json(alloc, bytes)? else {
         return Err(BadDocument::NotJson);
     };
-    read_document(alloc, &value)
+    read_document::<QuestionJson>(alloc, &value)
 }

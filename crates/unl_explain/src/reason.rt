@@ -2,8 +2,8 @@
 use unl_dependencies::Evaluation;
 use unl_documents::{List, Text};
 
-/// The explanation why a feature is on or off. Every dependency and every strategy is explained, even if the feature is
-/// off.
+/// The explanation of why a feature is on or off. Every dependency and every strategy is explained, even if the feature
+/// is off.
 #[derive(Debug, Drop)]
 pub struct Reason {
     /// The feature's evaluation: whether the feature is on, and its variant.

@@ -1,4 +1,4 @@
-//! Reads a question from an input and writes its explanation.
+//! Reads a question (why is a feature on or off?) from an input and writes the explanation that answers the question.
 ghost use Rattle.std.specs.Prelude.{◌≡◌, ◌≢◌, ◌≤◌, Err, IfOk, IsErrOf};
 ghost use Rattle.unl_base.specs.Faults.{Rose};
 ghost use Rattle.unl_explain.specs.Line.{explanation_line as line_of};
@@ -37,12 +37,12 @@ pub enum ExplainFault {
     Memory,
 }
 
-/// Reads a question from the source and writes its explanation to the sink.
+/// Reads a question from the source (why is a feature on or off?) and writes the explanation to the sink.
 ///
-/// Reads the source to its end. The input is one JSON object with a state, the name of a feature, and the context, the
-/// time and the random word for the evaluation. Writes one line of JSON that explains why the feature is on or off, or
-/// `null` if the state lacks the feature. The feature is evaluated with an empty host name. If the input is refused,
-/// the line `refused: <cause>` is written instead.
+/// Reads the source to its end, unless the input is too large. The input is one JSON object with a state, the name of a
+/// feature, and the context, the time (in milliseconds since 1970) and the random word for the evaluation. Writes one
+/// line of JSON that explains why the feature is on or off, or `null` if the state lacks the feature. The feature is
+/// evaluated with an empty host name. If the input is refused, the line `refused: <cause>` is written instead.
 ///
 /// # Errors
 /// - `TooLarge` if the input has more than 16,777,216 bytes. The line `refused: <cause>` was written.
@@ -80,7 +80,7 @@ pub fn explain_run<S: Source, K: Sink>(
     }
 }
 
-/// Converts a refusal, which has been written already, to the error of [`explain_run`].
+/// Converts a refusal to the error of [`explain_run`] with the same cause.
 fn fault_of(refusal: InputRefusal) -> ExplainFault
     ensures { result ≡ fault_of refusal }
 {

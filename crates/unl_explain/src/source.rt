@@ -1,4 +1,4 @@
-//! Finds where the variant of a feature comes from.
+//! Finds where the variant of a feature comes from: its first active strategy, its own variants, or neither.
 ghost use Rattle.std.specs.Prelude.{◌≡◌, is_some, option_and_then};
 ghost use Rattle.unl_documents.specs.Valid.{IsValidFeature};
 ghost use Rattle.unl_dependencies.specs.Evaluation.{own_variant as own_variant_of, strategy_variant as variant_of_strategy};
@@ -60,7 +60,7 @@ fn is_given_at(feature: &Feature, context: &Context, moment: &Moment, place: u32
     strategy_variant(feature, context, moment, place).is_some()
 }
 
-/// Whether a variant is chosen among the feature's own.
+/// Whether a variant is chosen among the feature's own variants.
 fn is_given_by_feature(feature: &Feature, context: &Context, moment: &Moment) -> bool
     requires valid { IsValidFeature feature.now }
     ensures { result ≡ is_some (own_variant_of feature.now context.now moment.entry.now) }

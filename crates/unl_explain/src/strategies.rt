@@ -1,5 +1,6 @@
-//! Explains each strategy of a feature: which of its constraints hold, which of its segments exist and which of their
-//! constraints hold, whether its rule holds, and whether it is active.
+//! Explains each strategy of a feature: which of its constraints hold, which of its segments exist and which
+//! constraints of these segments hold, whether its rule (the condition that the strategy's name selects) holds, and
+//! whether the strategy is active.
 ghost use Rattle.std.specs.Prelude.{◌≡◌, ◌≤◌, IfOk, length, map};
 ghost use Rattle.unl_documents.specs.Valid.{IsValidFeature};
 ghost use Rattle.unl_explain.specs.Reasons.{reasons_from, segment_reason, strategy_reason, truths_of};
