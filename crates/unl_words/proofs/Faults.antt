@@ -1,4 +1,4 @@
--- How clap's errors and its definition of a fault determine the result.
+-- Lemmas: when clap returns an error, the result is the refusal that the definitions give for the faults in the arguments.
 use Rattle.std.proofs.Common.{◌≡◌, ◌≢◌, List, [], ◌∷◌, Ok, Err, refl, sym, subst, ap, inl, inr, true≢false}
 use Rattle.std.specs.Prelude.{IsErr, IsErrAnd}
 use Rattle.clap.specs.Words.{HasKind, Kinds, Row, kind_of}
@@ -13,14 +13,15 @@ bad_else : (refusal : WordsRefusal) → refusal ≢ Memory → Bad ≡ refusal
 bad_else Bad not = refl
 bad_else Memory not = absurd (not refl)
 
--- An error other than out of memory is caused by a fault in the arguments.
+-- If clap's error is of one of these kinds, and isn't out of memory, there is a fault in the arguments, which is refused in the same way.
 pub faulted : (kinds : Kinds) (rows : List Row) (e : Error) → HasKind kinds e → refusal_of (kind_of e) ≢ Memory
     → faultless kinds rows ≡ Err (refusal_of (kind_of e))
 faulted [] rows e (inl memory) not = absurd (not (ap refusal_of memory))
 faulted [] rows e (inr none) not = absurd none
 faulted (k ∷ ks) rows e has not = ap Err (bad_else (refusal_of (kind_of e)) not)
 
--- If a refusal is forwarded unchanged, the properties proved for the refusal hold for the result.
+-- If the result is this refusal, and the reading is the same refusal unless it is `Memory`, then the result is equal to the reading, or it
+-- is the error `Memory` (`Gives`).
 pub forwarded_refusal : (result : WordsReading) (refusal : WordsRefusal) (reading : WordsReading) → IsErr result → IsErrAnd result (λ e. e ≡ refusal)
     → (refusal ≢ Memory → reading ≡ Err refusal) → Gives Memory result reading
 forwarded_refusal (Ok command) refusal reading is same gives = absurd (true≢false (sym is))

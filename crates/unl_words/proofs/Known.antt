@@ -19,7 +19,7 @@ use Rattle.unl_tokens.specs.Scopes.{scope_of}
 use Rattle.unl_words.specs.Lists.{are_different, has_count, is_named, is_token}
 use Rattle.unl_words.specs.Values.{is_line}
 
--- A number of items within its bounds.
+-- If `has_count` is true, the number of items is within its bounds.
 pub counted : (least most : ℕ) (items : List Text) → has_count least most items ≡ true → (least ≤ length items) × (length items ≤ most)
 counted least most items has =
     let parts = both (nat_le least (length items)) (nat_le (length items) most) has in
@@ -54,7 +54,7 @@ none_equal text (other ∷ others) none =
     (λ same. true≢false (sym ((bytes_eq-Decides other text).1 same) ∙ parts.0))
     (none_equal text others parts.1)
 
--- The first text is not among the others, and the others are distinct.
+-- If texts are distinct, the first is not among the others, and the others are distinct.
 pub others_differ : (text : Text) (texts : List Text) → are_different (text ∷ texts) ≡ true
     → All (λ (other : Text). ¬ (other ≡ text)) texts × (are_different texts ≡ true)
 unfolding are_different

@@ -19,7 +19,7 @@ found_below c text k (suc n) l at none =
     (λ other. cond-false _ _ _ (ne_eqb _ c (none n (omega arith) (omega arith))) ∙ found_below c text k n (omega arith) at (λ i a b. none i a (omega arith)))
     (cases_eq k n)
 
--- The result of `rsplit_once` at an ASCII character.
+-- For an ASCII character, the result of the method `rsplit_once`, as its contract describes it, is that of the definition `rsplit_once`.
 pub split_last : (c : ℕ) (text : List ℕ) (r : Option (Bor (List ℕ) × Bor (List ℕ)))
     → MatchOption r (RFindsChar c text None) (λ x. (i : ℕ) × (j : ℕ) × RFindsChar c text (Some (i, j)) × (x.0.now ≡ take i text) × (x.1.now ≡ drop j text) × (i ≤ j) × (length x.0.now ≡ i) × (length x.1.now + j ≡ length text))
     → c < 128 → option_map (λ x. (x.0.now, x.1.now)) r ≡ rsplit_once c text

@@ -7,7 +7,7 @@ use Rattle.unl_documents.specs.Results.{◌>>=◌, Gives}
 use Rattle.unl_words.specs.Words.{DecidedByRanges, CommandDefinition, WordsReading, asked_of, command_named, command_of, words_of}
 use Rattle.unl_words.specs.declared.refusal.WordsRefusal.TheVariants.{Bad, Memory}
 
--- The first argument names its command.
+-- The command of the arguments is the one that the first argument names.
 pub first_command : {X : Type 0} (text : X → Text) (arguments : List X) (first : X) (name : Text) → Some first ≡ slice_get arguments 0
     → name ≡ text first → command_named name ≡ command_of (map text arguments)
 unfolding command_of
@@ -29,7 +29,7 @@ unfolding words_of
 exactly arguments command result named gives =
     subst (λ (found : Option CommandDefinition). Gives Memory result (ok_or found Bad >>= (λ (c : CommandDefinition). asked_of c arguments))) named gives
 
--- The arguments name at most one command.
+-- The arguments name at most one command, so a property of the command that was found holds for every command that they name.
 pub decided : (arguments : List Text) (known command : CommandDefinition) (result : WordsReading) → Some known ≡ command_of arguments
     → DecidedByRanges known arguments result → command_of arguments ≡ Some command → DecidedByRanges command arguments result
 decided arguments known command result named answers is =

@@ -20,7 +20,7 @@ and_false : (a : Bool) → (a && false) ≡ false
 and_false true = refl
 and_false false = refl
 
--- A number has no sign, and `parse` accepts each of its bytes.
+-- A text of one or more ASCII digits has no sign, and `parse` accepts each of its bytes.
 digits : (text : List ℕ) → is_number text ≡ true → (without_leading_plus text ≡ text) × IsNumeral 10 text
 digits [] is = absurd (true≢false (sym is))
 digits (c ∷ cs) is =
@@ -28,7 +28,7 @@ digits (c ∷ cs) is =
     let here = tells_all_ascii_digits.parts c cs all in
     (without_leading_plus_none (c ∷ cs) (λ plus. omega (arith, here.0)), (omega arith, all_digits (c ∷ cs) all))
 
--- A number that `parse` rejects is greater than any that it could return.
+-- A text of digits that `parse` rejects is 2^64 or more, so it is above any bound less than 2^64, and refused.
 pub number_too_great : (least most : ℕ) (text : List ℕ) → is_number text ≡ true → most < 2 ^ 64
     → ¬ (IsNumeral 10 (without_leading_plus text) × (digits_value 10 (without_leading_plus text) < 2 ^ 64))
     → Err Bad ≡ number_within least most text

@@ -1,4 +1,5 @@
--- Each command is simple, as `is_simple_and_free` of clap says, and none of its options has a rule about another option.
+-- Each command meets the condition `is_simple_and_free`, under which clap's contract determines what it parses: its definition uses no
+-- settings that change how arguments are read, and none of its options has a rule about another option.
 use Rattle.std.proofs.Common.{◌≡◌, true, refl}
 use Rattle.clap.specs.Words.{is_simple_and_free}
 use Rattle.unl_words.specs.Commands.{command_by}

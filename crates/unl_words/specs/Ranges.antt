@@ -1,4 +1,4 @@
--- The ranges that the values of options are in after they were read.
+-- The ranges of the values of options that were read.
 use Rattle.std.specs.Prelude.{◌≡◌, ◌≤◌, ℕ, true, ⊤}
 use Rattle.unl_words.specs.declared.words.EdgeArguments.{EdgeArguments}
 use Rattle.unl_words.specs.declared.words.FollowArguments.{FollowArguments}

@@ -47,7 +47,7 @@ within least most number = passed (nat_le least number && nat_le number most) nu
 unfoldable pub number_within : ℕ → ℕ → Text → Value ℕ
 number_within least most text = if is_number text then within least most (digits_value 10 text) else Err Bad
 
--- The number of an option, or its default if the option is absent.
+-- The number of an option if it is within the bounds, or the default if the option is absent.
 abbrev pub number_or : ℕ → ℕ → ℕ → Option Text → Value ℕ
 number_or default least most given = option_map_or (number_within least most) given (Ok default)
 
@@ -93,11 +93,12 @@ mode_of text = if bytes_eq text (codes "delta") then Ok true else passed (bytes_
 abbrev pub mode_or_delta : Option Text → Value Bool
 mode_or_delta given = option_map_or mode_of given (Ok true)
 
--- Where commands are kept: true for `sqlite` (a database in memory), false for `memory` (a list). Other texts are refused.
+-- Where an upstream keeps the commands that change its features: true for `sqlite` (a database in memory), false for `memory` (a list).
+-- Other texts are refused.
 abbrev pub sqlite_of : Text → Value Bool
 sqlite_of text = if bytes_eq text (codes "sqlite") then Ok true else passed (bytes_eq text (codes "memory")) false
 
--- Where commands are kept by an option, `memory` by default.
+-- Where an upstream keeps its commands, by the value of an option: `memory` by default.
 abbrev pub sqlite_or_memory : Option Text → Value Bool
 sqlite_or_memory given = option_map_or sqlite_of given (Ok false)
 

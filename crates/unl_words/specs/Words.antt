@@ -20,7 +20,7 @@ WordsReading = Result Words WordsRefusal
 
 -- ---- commands
 
--- A command: its definition for clap, and how its values are read from the rows of values that clap finds.
+-- A command: its definition for clap, and how its values are read from the rows that clap finds. A row has what was found for one option.
 pub record CommandDefinition : Type 0 where
   pub app : App
   pub asks : List Row → WordsReading
@@ -43,7 +43,7 @@ with_options name rules = fold with_rule (new_app name) rules
 unfoldable pub replay_app : App
 replay_app = new_app (codes "replay")
 
--- The command `replay`, which reads lines of input and prints for each line what an edge answers.
+-- The command `replay`, which reads lines of input and prints for each line how an edge responds to it.
 abbrev pub replay : CommandDefinition
 replay = record { app = replay_app; asks = λ rows. Ok Replay }
 
@@ -239,7 +239,7 @@ asked_of command arguments = do
   rows ← matched command.app arguments
   command.asks rows
 
--- The command that the arguments name, with its values.
+-- The command that the arguments name, with its values; or `Bad` if they name no command, clap finds a fault, or a value is refused.
 unfoldable pub words_of : List Text → WordsReading
 words_of arguments = do
   command ← ok_or (command_of arguments) Bad

@@ -7,6 +7,7 @@ ghost use Rattle.unl_words.specs.Lists.{are_own_tokens, fit_one_book};
 
 use serde_json::{Map, Value};
 use std::alloc::Global;
+use unl_documents::kind::AnyText;
 use unl_documents::to_value::{put, put_value};
 use unl_documents::{Field, List, Memory, Text};
 use unl_tokens::{BadBook, Book};
@@ -71,7 +72,7 @@ fn own_entry(alloc: Global, kind: &str, text: &Text) -> Result<Value, Memory>
     ensures { IfOk result (λ value. view value ≡ own_entry kind.now text.now) }
 {
     let mut members = Map::new(alloc);
-    put(&mut members, alloc, Field::Kind, &Text::new(alloc, kind)?)?;
-    put(&mut members, alloc, Field::Token, text)?;
+    put::<AnyText>(&mut members, alloc, Field::Kind, &Text::new(alloc, kind)?)?;
+    put::<AnyText>(&mut members, alloc, Field::Token, text)?;
     Ok(Value::Object(members))
 }

@@ -1,4 +1,4 @@
-//! Parses the command line of the program: which command it names, and the checked values of the command's options.
+//! Parses the command line of the program into a command and the checked values of that command's options.
 #![tactic(auto)]
 
 mod book;

@@ -3,7 +3,7 @@ ghost use Rattle.std.specs.Prelude.{◌≡◌, map, option_map, string_bytes};
 ghost use Rattle.unl_words.specs.Commands.{command_by};
 ghost use Rattle.unl_words.specs.Words.{command_named, command_of};
 
-/// The name of a command.
+/// The name of a command: the first argument of a command line.
 #[derive(Clone, Copy)]
 pub(crate) enum CommandName {
     Replay,
@@ -15,7 +15,7 @@ pub(crate) enum CommandName {
     Load,
 }
 
-/// Returns the command name in the first argument, or `None` if there is no argument or it is no command name.
+/// Returns the command that the first argument names, or `None` if there is no argument or the first names no command.
 pub(crate) fn first_name(arguments: &[String]) -> Option<CommandName>
     ensures { option_map command_by result ≡ command_of (map string_bytes arguments.now) }
 {

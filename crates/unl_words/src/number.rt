@@ -7,7 +7,8 @@ ghost use Rattle.unl_words.specs.Values.{is_number, is_port, number_or, number_w
 
 use crate::WordsRefusal;
 
-/// Reads the number of an option, within two bounds. Returns the default if the option is absent.
+/// Reads the number of an option, from `least` to `most`. Returns the default if the option is absent, and `Bad` if its
+/// value isn't such a number.
 pub(crate) fn number_or(
     given: Option<&str>,
     default: u64,
@@ -24,7 +25,8 @@ pub(crate) fn number_or(
     }
 }
 
-/// Reads the number of a required option, within two bounds.
+/// Reads the number of a required option, from `least` to `most`. Returns `Bad` if the option is absent or its value
+/// isn't such a number.
 pub(crate) fn required_number(
     given: Option<&str>,
     least: u64,
@@ -46,7 +48,8 @@ pub(crate) fn is_port(text: &str) -> bool
     number_within(text, 1, 65_535).is_ok()
 }
 
-/// Parses a number within the given bounds. It consists of one or more ASCII digits; leading zeros are allowed.
+/// Parses a number from `least` to `most`, written as one or more ASCII digits; leading zeros are allowed. Any other
+/// text is `Bad`.
 #[tactic(auto, unfolding(crate::specs::Values::number_within))]
 fn number_within(text: &str, least: u64, most: u64) -> Result<u64, WordsRefusal>
     ensures gives { result ≡ number_within least most text.now }
@@ -61,7 +64,7 @@ fn number_within(text: &str, least: u64, most: u64) -> Result<u64, WordsRefusal>
     }
 }
 
-/// Returns the number if it is within the bounds.
+/// Returns the number if it is from `least` to `most`, otherwise `Bad`.
 fn within(number: u64, least: u64, most: u64) -> Result<u64, WordsRefusal>
     ensures gives { result ≡ within least most number }
     ensures range { IfOk result (IsWithin least most) }

@@ -23,30 +23,31 @@ const LAST_MOMENT: u64 = 100_000_000_000_000;
 
 /// Reads the arguments of a command line, without the name of the program. The first argument names the command. Clap
 /// parses the others as a command without subcommands, in which each option has one value after its long name. A number
-/// consists of one or more ASCII digits. A list has commas between its items; the items are trimmed, and empty ones are
-/// dropped.
+/// consists of one or more ASCII digits. A list has commas between its items; ASCII whitespace around an item is
+/// removed, and empty items are dropped. The fields of [`Words`] say what each value means.
 ///
 /// - `replay` has no options.
 /// - `check` has `--now`, a time of at most 100,000,000,000,000 milliseconds since 1970, and `--word`, an unsigned
 ///   64-bit number. Each defaults to 0.
-/// - `edge` has `--port` (default 3063), `--upstream` `HOST:PORT`, which is split at its last colon,
-///   `--upstream-tokens`, 1 to 8 tokens with distinct environments, `--tokens`, 1 to 1,024 tokens, `--host` (default
-///   empty), `--workers`, 1 to 16 (default 4), `--interval`, 1 to 3,600 seconds (default 15), `--connections`, an
-///   unsigned 64-bit number (default 0), and `--mode`, `feed` or `delta` (default `delta`). The upstream and both lists
-///   of tokens are required.
+/// - `edge` has `--port` (default 3063), `--upstream` `HOST:PORT`, which is split at its last colon into a nonempty
+///   host and a port, `--upstream-tokens`, 1 to 8 tokens with distinct environments, `--tokens`, 1 to 1,024 tokens,
+///   `--host` (default empty), `--workers`, 1 to 16 (default 4), `--interval`, 1 to 3,600 seconds (default 15),
+///   `--connections`, an unsigned 64-bit number (default 0), and `--mode`, `feed` or `delta` (default `delta`). The
+///   upstream and both lists of tokens are required.
 /// - `upstream` has `--port` (default 4242), `--secret`, which isn't empty, `--environments`, 1 to 8 distinct names,
 ///   `--client-tokens` and `--frontend-tokens` (default empty), together at most 1,024 distinct texts, each with one
 ///   project or all projects, `--connections` as for `edge`, `--epoch`, an unsigned 64-bit number (default 0), and
 ///   `--keep`, `memory` or `sqlite` (default `memory`). The secret and the environments are required.
-/// - `follow` has `--upstream` `HOST:PORT`, `--token`, `--feature`, a name, `--context`, a query that
-///   `Context::read_query` accepts (default empty), `--mode` as for `edge`, `--turns`, 1 to 1,000,000 (default 1), and
-///   `--interval` as for `edge`. The first three are required. The context's environment is set to that of the token.
+/// - `follow` has `--upstream` as for `edge`, `--token`, `--feature`, a name, `--context`, the query of a URL, such as
+///   `userId=7`, that `Context::read_query` accepts (default empty), `--mode` as for `edge`, `--turns`, 1 to 1,000,000
+///   (default 1), and `--interval` as for `edge`. The first three are required. The context's environment is set to
+///   that of the token.
 /// - `explain` has no options.
 /// - `load` has `--seed`, an unsigned 64-bit number, and `--count`, 1 to 1,000,000. Both are required.
 ///
-/// A port is 1 to 65535. A name has 1 to 255 bytes. A token's text has at most 512 bytes and is accepted by
-/// `Scope::read`, and its environment and projects are names. Hosts, secrets and tokens contain no carriage return,
-/// line feed or NUL.
+/// A port is 1 to 65535. A name has 1 to 255 bytes. A token's text has at most 512 bytes, `Scope::read` can parse it as
+/// `project:environment.secret`, and its environment and projects are names. Hosts, secrets and tokens contain no
+/// carriage return, line feed or NUL.
 ///
 /// # Errors
 ///
@@ -85,7 +86,7 @@ fn read_command(
     asked(alloc, name, &matches)
 }
 
-/// Returns a command with the values that clap found.
+/// Returns the command with the values that clap found, or `Bad` if a value is outside its range.
 #[tactic(auto, unfolding(crate::specs::Commands::command_by))]
 fn asked(alloc: Global, name: CommandName, matches: &ArgMatches<'_>) -> Result<Words, WordsRefusal>
     ensures gives { Gives Memory result ((command_by name).asks (rows_of (found_of matches.now))) }
@@ -206,7 +207,7 @@ fn asked_load(matches: &ArgMatches<'_>) -> Result<Words, WordsRefusal>
     Ok(Words::Load { seed, count })
 }
 
-/// Reads the port in an option, which isn't 0. Returns the default if the option is absent.
+/// Reads the port in the option `--port`: 1 to 65535. Returns the default if the option is absent.
 fn port_or(matches: &ArgMatches<'_>, default: u64) -> Result<u16, WordsRefusal>
     requires { IsWithin 1 65535 default }
     ensures gives { result ≡ number_or default 1 65535 (first_of (codes "port") (rows_of (found_of matches.now))) }

@@ -1,5 +1,5 @@
-//! Reads option values that are not numbers or lists: addresses, secrets, tokens, names, lines, modes and a context.
-//! Where no default is stated, an absent option is refused.
+//! Reads option values that are not numbers or lists: addresses, secrets, tokens, names, texts of one line, modes and a
+//! context. Any other value is refused (`Bad`), and where no default is stated, an absent option is refused too.
 ghost use Rattle.std.specs.Prelude.{◌≡◌, ◌<◌, true, Ok, IfOk, option_copied, option_map};
 ghost use Rattle.std.specs.List.{list_all};
 ghost use Rattle.std.specs.Path.{rsplit_once};
@@ -74,7 +74,7 @@ pub(crate) fn name(alloc: Global, given: Option<&str>) -> Result<Text, WordsRefu
     }
 }
 
-/// Reads a token that is sent to an upstream.
+/// Reads a token that is sent to an upstream: a text that [`is_token`] accepts, with `[]` allowed as its project.
 pub(crate) fn token(alloc: Global, given: Option<&str>) -> Result<Text, WordsRefusal>
     ensures gives { Gives Memory result (required token_of (option_copied given.entry)) }
     ensures valid { IfOk result (λ text. is_token true text ≡ true) }
@@ -121,8 +121,8 @@ pub(crate) fn mode_or_delta(given: Option<&str>) -> Result<bool, WordsRefusal>
     }
 }
 
-/// Reads where commands are kept: true for `sqlite` (a database in memory), and false for `memory` (a list), which is
-/// the default.
+/// Reads where an upstream keeps the commands that change its features: true for `sqlite` (a database in memory), and
+/// false for `memory` (a list), which is the default.
 pub(crate) fn sqlite_or_memory(given: Option<&str>) -> Result<bool, WordsRefusal>
     ensures { result ≡ sqlite_or_memory (option_copied given.entry) }
 {

@@ -5,7 +5,7 @@ use unl_documents::{List, Text};
 /// A command of the program, with the values of its options.
 #[derive(Debug, Drop)]
 pub enum Words {
-    /// Reads lines of input, and prints for each line what an edge answers.
+    /// Reads lines of input, and prints for each line how an edge responds to it.
     Replay,
     /// Reads a test file in the format of the Unleash client specification, and runs its tests.
     Check {
@@ -16,11 +16,11 @@ pub enum Words {
     },
     /// Serves evaluations, and polls its upstream.
     Edge(EdgeArguments),
-    /// Accepts commands, and serves the resulting state.
+    /// Accepts commands that change features and segments, and serves the resulting state.
     Upstream(UpstreamArguments),
     /// Polls an upstream turn by turn, and prints after each turn whether one feature is on.
     Follow(FollowArguments),
-    /// Prints why the feature in its input is on or off.
+    /// Reads features, a feature's name and a context from the input, and prints why that feature is on or off.
     Explain,
     /// Evaluates features of a large generated input.
     Load {
@@ -36,10 +36,10 @@ pub enum Words {
 pub struct EdgeArguments {
     /// The port to listen on, which isn't 0.
     pub port: u16,
-    /// The upstream's `HOST:PORT`.
+    /// The upstream's `HOST:PORT`, with a nonempty host and a port other than 0.
     pub upstream: Text,
-    /// The tokens that the edge sends to the upstream: 1 to 8, with distinct environments. The edge has one slot for
-    /// each token, in this order.
+    /// The tokens that the edge sends to the upstream: 1 to 8, with distinct environments. The edge has one slot (the
+    /// replica of an environment) for each token, in this order.
     pub upstream_tokens: List<Text>,
     /// The tokens that the edge may accept from clients, if the upstream knows them: 1 to 1,024.
     pub tokens: List<Text>,
@@ -60,30 +60,32 @@ pub struct EdgeArguments {
 pub struct UpstreamArguments {
     /// The port to listen on, which isn't 0.
     pub port: u16,
-    /// The secret that a request must send as its token to give a command. It isn't empty.
+    /// The secret that a request must send as its token to have a command applied. It isn't empty.
     pub secret: Text,
-    /// The names of the environments: 1 to 8 distinct names.
+    /// The environments: 1 to 8 distinct names of 1 to 255 bytes.
     pub environments: List<Text>,
-    /// The tokens that edges and backends may use. Together with `frontend_tokens` at most 1,024, with distinct texts.
+    /// The tokens that edges and backends may use, each for one project or all projects. Together with
+    /// `frontend_tokens` at most 1,024, with distinct texts.
     pub client_tokens: List<Text>,
-    /// The tokens that browsers may use. The limit on their number is that of `client_tokens`.
+    /// The tokens that browsers may use, with the limits of `client_tokens`.
     pub frontend_tokens: List<Text>,
     /// The number of connections after which the port is closed, or 0 for never.
     pub connections: u64,
-    /// The epoch of the versions of all environments. It should be higher than at each earlier start.
+    /// The epoch in the versions of all environments. It should be higher than at each earlier start, since an upstream
+    /// that lost its commands numbers its versions from 0 again.
     pub epoch: u64,
-    /// Whether commands are kept in a SQLite database in memory, instead of a list in memory.
+    /// Whether the accepted commands are kept in a SQLite database in memory, instead of a list in memory.
     pub sqlite: bool,
 }
 
 /// The values of the options of `follow`.
 #[derive(Debug, Drop)]
 pub struct FollowArguments {
-    /// The upstream's `HOST:PORT`.
+    /// The upstream's `HOST:PORT`, with a nonempty host and a port other than 0.
     pub upstream: Text,
     /// The token that is sent to the upstream.
     pub token: Text,
-    /// The name of the feature.
+    /// The name of the feature to evaluate: 1 to 255 bytes.
     pub feature: Text,
     /// The context that the feature is evaluated for: read from a query, with its environment set to that of the token.
     pub context: Context,
