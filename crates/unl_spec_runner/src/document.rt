@@ -21,7 +21,7 @@ use unl_documents::items::{Item, each_item, list};
 use unl_documents::keys::{defaulted, optional, required};
 use unl_documents::kind::{AnyText, Boolean, Kind, Name, UpTo};
 use unl_documents::parsing::read_json;
-use unl_documents::{BadDocument, Field, List, Payload, State, Text};
+use unl_documents::{BadDocument, Field, List, PayloadJson, State, StateJson, Text};
 use unl_input::context_in;
 
 /// The largest number of tests in each list of a file. No input can have more tests, because this is also the largest
@@ -87,12 +87,17 @@ impl Expects for VariantTest {
 
     #[tactic(auto, unfolding(crate::specs::TestFile::expected_variant))]
     fn read_expected(alloc: Global, test: &Value) -> Result<Expected, BadDocument> {
-        let variant = required::<Object<ExpectedVariant>>(alloc, Field::ExpectedResult, test)?;
+        let variant = required::<Object<ExpectedVariantJson>>(alloc, Field::ExpectedResult, test)?;
         Ok(Expected::Variant(variant))
     }
 }
 
-impl Document for ExpectedVariant {
+/// How an expected variant is read from a JSON object.
+struct ExpectedVariantJson;
+
+impl Document for ExpectedVariantJson {
+    type Out = ExpectedVariant;
+
     ghost reads_object = { expected_variant_of };
 
     ghost is_valid = { Anything };
@@ -101,7 +106,7 @@ impl Document for ExpectedVariant {
     fn read_object(alloc: Global, value: &Value) -> Result<ExpectedVariant, BadDocument> {
         let name = required::<Name>(alloc, Field::Name, value)?;
         let enabled = required::<Boolean>(alloc, Field::Enabled, value)?;
-        let payload = optional::<Object<Payload>>(alloc, Field::Payload, value)?;
+        let payload = optional::<Object<PayloadJson>>(alloc, Field::Payload, value)?;
         let feature_enabled = feature_enabled_in(alloc, value)?;
         Ok(ExpectedVariant {
             name,
@@ -113,7 +118,8 @@ impl Document for ExpectedVariant {
 }
 
 /// Parses whether the feature is expected to be on: the value at `feature_enabled`, or else at `featureEnabled`.
-/// Returns `Ok(None)` if there is no value at either key.
+/// Returns `Ok(None)` if there is no value at either key, and an error if the value at either key is neither a boolean
+/// nor null.
 #[tactic(auto, unfolding(crate::specs::TestFile::feature_enabled_in))]
 fn feature_enabled_in(alloc: Global, value: &Value) -> Result<Option<bool>, BadDocument>
     ensures { Gives result (feature_enabled_in (view value.now)) }
@@ -175,7 +181,12 @@ fn read_test<E: Expects>(alloc: Global, value: &Value) -> Result<Test, BadDocume
     })
 }
 
-impl Document for TestFile {
+/// How a test file is read from a JSON object.
+struct TestFileJson;
+
+impl Document for TestFileJson {
+    type Out = TestFile;
+
     ghost reads_object = { file_of };
 
     ghost is_valid = { IsValidFile };
@@ -184,7 +195,7 @@ impl Document for TestFile {
     fn read_object(alloc: Global, value: &Value) -> Result<TestFile, BadDocument> {
         let none = Text::new(alloc, "")?;
         let _name = defaulted::<AnyText>(alloc, none, Field::Name, value)?;
-        let state = required::<Object<State>>(alloc, Field::State, value)?;
+        let state = required::<Object<StateJson>>(alloc, Field::State, value)?;
         let tests = list::<TestOf<ResultTest>>(alloc, MOST_TESTS, Field::Tests, value)?;
         let variant_tests = list::<TestOf<VariantTest>>(
             alloc,
@@ -212,7 +223,7 @@ impl Kind for WholeFile {
     ghost is_valid = { IsValidFile };
 
     fn read(alloc: Global, _field: Field, value: &Value) -> Result<TestFile, BadDocument> {
-        read_document(alloc, value)
+        read_document::<TestFileJson>(alloc, value)
     }
 }
 
@@ -248,7 +259,7 @@ fn file_alone(alloc: Global, value: &Value) -> Result<List<TestFile>, BadDocumen
     ensures gives { Gives result (file_alone (view value.now)) }
     ensures valid { IfOk result (All IsValidFile) }
 {
-    let file = read_document(alloc, value)?;
+    let file = read_document::<TestFileJson>(alloc, value)?;
     let mut files = List::new(alloc);
     files.push(file)?;
     Ok(files)

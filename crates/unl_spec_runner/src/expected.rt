@@ -8,8 +8,9 @@ ghost use Rattle.unl_spec_runner.specs.Expected.{variant_data, expected_data, ex
 use serde_json::{Map, Value};
 use std::alloc::Global;
 use unl_dependencies::Evaluation;
+use unl_documents::kind::{AnyText, Boolean};
 use unl_documents::to_value::{put, put_some};
-use unl_documents::{Field, Memory, Payload, Text, TryClone};
+use unl_documents::{Field, Memory, Payload, PayloadJson, Text, TryClone};
 
 /// The expected or actual result of a test.
 #[derive(Debug, Drop)]
@@ -109,15 +110,15 @@ impl ExpectedVariant {
         ensures { IfOk result (λ v. view v ≡ variant_data self.now) }
     {
         let mut members = Map::new(alloc);
-        put(&mut members, alloc, Field::Name, &self.name)?;
-        put_some(
+        put::<AnyText>(&mut members, alloc, Field::Name, &self.name)?;
+        put_some::<Boolean>(
             &mut members,
             alloc,
             Field::FeatureEnabled,
             &self.feature_enabled,
         )?;
-        put(&mut members, alloc, Field::Enabled, &self.enabled)?;
-        put_some(&mut members, alloc, Field::Payload, &self.payload)?;
+        put::<Boolean>(&mut members, alloc, Field::Enabled, &self.enabled)?;
+        put_some::<PayloadJson>(&mut members, alloc, Field::Payload, &self.payload)?;
         Ok(Value::Object(members))
     }
 }
