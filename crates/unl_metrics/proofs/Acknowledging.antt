@@ -1,4 +1,5 @@
--- The range of rows that the code of `acknowledged` removes is what `acknowledge` drops, and a valid book is left.
+-- `MetricsBook::acknowledged` removes one range of rows. These are the keys that its definition `acknowledge` drops (the first keys of an
+-- environment), and a valid book is left.
 use Rattle.std.proofs.Common.{◌≡◌, ℕ, zero, suc, ◌+◌, ◌≤◌, min, Bool, true, false, cond, not, ◌&&◌, T, List, [], ◌∷◌, length, drop, refl, sym, subst, ap, ◌∙◌, nat_cmp, nat_lt, arith}
 use Rattle.std.proofs.lemmas.Bool.Decides.{nat_tests}
 use Rattle.std.proofs.lemmas.Cmp.{nat_list_cmp_total}
@@ -99,7 +100,8 @@ kept environment e f (g ∷ es) (suc count) here other low above =
       | false ↦ λ at. ap (λ (b : Book). g ∷ b) rest
     ] refl
 
--- After a key of the environment, `acknowledge` drops keys from the following run of keys of the same environment.
+-- After a key of the environment, `acknowledge` drops the first `count` keys of the run of keys of the environment that follows, or the
+-- whole run if it is shorter.
 run_goes : (environment : List ℕ) (e : MetricKey × Tally) (es : Book) (count : ℕ) → is_of environment e.0 ≡ true → T (below_all key_cmp e.0 es) → T (is_sorted key_cmp es) → drop (min (prefix_len (λ f. is_of environment f.0) es) count) es ≡ acknowledge environment count es
 unfolding acknowledge
 run_goes environment e es zero here above sorted = let none : min (prefix_len (λ f. is_of environment f.0) es) 0 ≡ 0 = grind arith in rw none refl
@@ -114,7 +116,7 @@ run_goes environment e (f ∷ es) (suc count) here above sorted =
       | false ↦ λ at. let none : min 0 (suc count) ≡ 0 = grind arith in rw none (ap (λ (b : Book). f ∷ b) (sym (kept environment e f es (suc count) here at low below)))
     ] refl
 
--- The position of the environment's first key.
+-- The position of the environment's first key, or the length of the book if there is none.
 abbrev pub start_of : List ℕ → Book → ℕ
 start_of environment book = prefix_len (λ e. not (is_of environment e.0)) book
 

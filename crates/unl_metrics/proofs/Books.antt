@@ -17,7 +17,7 @@ use Rattle.unl_metrics.proofs.Entries.{both_of}
 use Rattle.unl_metrics.proofs.Order.{keys_total}
 use Rattle.unl_metrics.proofs.Variants.{stays_sorted}
 
--- `Row::plus` has the key of the first row and the sum of both tallies.
+-- The row that `Row::plus` returns has the key of the first row and the sum of both tallies.
 pub plus_is : (environment other_environment copied : List ℕ) (old other new : MetricEntry) (this that : MetricKey × Tally) → copied ≡ environment → ((e : List ℕ) → key_of e new ≡ key_of e old) → tally_of new ≡ tally_sum (tally_of old) (tally_of other)
     → counted environment old ≡ this → counted other_environment other ≡ that → counted copied new ≡ (this.0, tally_sum this.1 that.1)
 plus_is environment other_environment copied old other new this that same key tally is was =

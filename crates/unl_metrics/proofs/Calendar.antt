@@ -94,7 +94,7 @@ years_from_1970 d days is = by d.year refl
         let later = day_count-later_year d.year (pos 1970) (omega (arith, signed_arith, d.year_in.0)) (rw e (omega (arith, signed_arith))) in
         absurd (omega (arith, count, later, day_count-day_of_year d.year d.month d.day d.day_in.0, day_of_year_bound d.year d.month d.day (civil d), day_count-epoch))
 
--- A date and a time as `jiff` prints them.
+-- `jiff` prints a date as `YYYY-MM-DD` and the start of an hour as `HH:00:00`.
 date_part : (y : ℤ) (year m d : ℕ) (y_in : IsYear y) (m_in : IsInRange 1 12 m) (d_in : IsInRange 1 (days_in_month y m) d) → y ≡ pos year → jiff.date_text (record { year = y; month = m; day = d; year_in = y_in; month_in = m_in; day_in = d_in }) ≡ four_digits year ++ 45 ∷ two_digits m ++ 45 ∷ two_digits d
 date_part (pos n) year m d y_in m_in d_in e =
     let same : n ≡ year = omega (arith, signed_arith, e) in

@@ -1,4 +1,4 @@
--- The nesting depth of a bulk report.
+-- The nesting depth of a bulk report is at most 4.
 use Rattle.std.proofs.Common.{ℕ, ◌≤◌, List, [], ◌∷◌, map, arith}
 use Rattle.std.specs.Cmp.Lexicographic.{slice_cmp}
 use Rattle.std.specs.Ordering.{nat_cmp, match_ordering}

@@ -132,7 +132,7 @@ entry_new R o plus e es s h = rw (find_new R o e.0 es s h) (put_new R o e.0 e.1 
 pub entry_old : {K X : Type 0} (R : K → K → Ordering) → IsTotalOrder R → (plus : X → X → X) (e : K × X) (es : List (K × X)) (d : K × X) → is_present R e.0 es ≡ true → with_entry R plus es e ≡ slice_set es (place R e.0 es) ((get_or es (place R e.0 es) d).0, plus (get_or es (place R e.0 es) d).1 e.1)
 entry_old R o plus e es d h = rw (find_old R o e.0 es d h) (put_old R o e.0 (plus (get_or es (place R e.0 es) d).1 e.1) es d h)
 
--- An item found at a position is within the list.
+-- If there is an item at a position, and it passes the test, the position is within the list.
 pub present_within : {Y : Type 0} (test : Y → Bool) (ys : List Y) (n : ℕ) → option_map_or test (slice_get ys n) false ≡ true → n < length ys
 present_within test [] n h = absurd (subst T (sym h) tt)
 present_within test (y ∷ ys) zero h = omega arith

@@ -1,4 +1,4 @@
--- The hour of an instant that was read from a text is at most `last_hour`, so the text of the hour can be read again.
+-- The hour of an instant that was read from a text is at most `last_hour`, the latest hour whose text can be read.
 use Rattle.std.proofs.Common.{◌≡◌, ℕ, ◌≤◌, ◌/◌, ◌||◌, Bool, true, false, cond, List, Option, Some, None, Result, Ok, Err, refl, sym, subst, ap, T, nat_lt, arith, ℤ, pos, negsuc, neg_ℤ, ◌-ℤ◌, ◌≤ℤ◌}
 use Rattle.std.proofs.lemmas.Int.{ints}
 use Rattle.std.specs.Prelude.{IfSome, option_and_then, int_lt, is_ok, is_some, unwrap_or}
@@ -59,7 +59,7 @@ by_reading : (r : Result ℤ Error) (h : ℕ) → ((n : ℤ) → r ≡ Ok n → 
 by_reading (Ok n) h soon e = soon_hour n h (soon n refl) e
 by_reading (Err x) h soon e = absurd (subst T (ap is_some (sym e)) tt)
 
--- The hour of an instant that was read is at most `last_hour`.
+-- The hour of an instant that was read is at most 70389502, which is `last_hour`.
 pub has_instant : (text : List ℕ) (h : ℕ) → option_and_then hour_of (instant_of text) ≡ Some h → h ≤ 70389502
 unfolding instant_of
 has_instant text h e = by_reading (parse_timestamp text) h (parsed_soon text) e

@@ -1,4 +1,4 @@
--- The loops that read each member of a JSON object compute `each_member`.
+-- The loops that read each member of a JSON object compute `each_member`, which reads the members in order, up to the first fault.
 use Rattle.std.proofs.Common.{◌≡◌, ℕ, List, [], ◌∷◌, ◌++◌, map, Ok, Err, String, Global, string_bytes, refl, sym, ap, subst, ◌∙◌, append_assoc, nat_cmp, Less, arith}
 use Rattle.std.proofs.lemmas.List.{append-nil, map_push}
 use Rattle.std.proofs.lemmas.List.Elements.{All-nil}

@@ -1,4 +1,4 @@
--- No bulk report has a number with a decimal point.
+-- No bulk report has a floating-point number.
 use Rattle.std.proofs.Common.{◌≡◌, ◌||◌, ℕ, Bool, true, false, T, List, [], ◌∷◌, map, take, refl, subst, ap, ◌∙◌}
 use Rattle.std.specs.Option.{option_map_or}
 use Rattle.std.specs.Prelude.{Option, Some, None, option_map, is_some, IfSome}

@@ -1,4 +1,4 @@
--- A metrics book: a finite map from keys to tallies, as a list in ascending order of keys.
+-- A metrics book: a finite map from keys to tallies (the counts at a key), as a list in ascending order of keys.
 use Rattle.std.specs.Prelude.{◌≡◌, ◌<◌, ◌+◌, ◌-◌, ◌^◌, ℕ, zero, suc, min, List, [], ◌∷◌, map, length, fold, All, Bool, true, ◌&&◌, nat_le}
 use Rattle.std.specs.Prelude.{Option, Some, None, T, Result, Ok, Err, if◌then◌else◌}
 use Rattle.std.specs.Cmp.Lexicographic.{slice_cmp}

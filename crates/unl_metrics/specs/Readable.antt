@@ -46,7 +46,8 @@ entry_at (key, tally) =
 abbrev pub entries_at : Book → List MetricEntry
 entries_at book = map entry_at book
 
--- A key and its tally that can be sent and read back: names within the limits of names, and an hour that can be read.
+-- A key and its tally that can be sent and read back: the names of the app, the feature and the variants are within the limits of names,
+-- and the hour can be read.
 pub record IsSendable (e : MetricKey × Tally) : Type 0 where
   pub app : IsName e.0.app
   pub feature : IsName e.0.feature

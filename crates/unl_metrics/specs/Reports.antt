@@ -64,7 +64,7 @@ variant_count key name value = do
 
 -- ---- reports
 
--- The counts of a feature in an app and an hour, from an object. Absent and null keys count as 0 or as no variants.
+-- The counts of a feature in an app during an hour, from an object. Absent and null keys count as 0 or as no variants.
 unfoldable pub entry_of : List ℕ → List ℕ → ℕ → Data → Reading MetricEntry
 entry_of app feature at value = do
   ons ← defaulted 0 any_whole field.Yes value
@@ -72,7 +72,8 @@ entry_of app feature at value = do
   variants ← defaulted [] (members 100 variant_count) field.Variants value
   Ok (record { app = app; feature = feature; hour = at; yes = ons; no = offs; variants = variants })
 
--- The entry of a toggle. First its key is checked, which is the feature's name, and then its value, an object with counts.
+-- The entry of a toggle, a member of the object at `toggles`. First its key is checked, which is the feature's name, and then its value,
+-- which must be an object with counts.
 unfoldable pub toggle_of : List ℕ → ℕ → Field → List ℕ → Data → Reading MetricEntry
 toggle_of app at key feature value = do
   named ← name_of key feature

@@ -21,8 +21,9 @@ use std::marker::Model;
 use unl_documents::{Memory, Shared};
 
 /// Counts of feature evaluations. A key is an environment, an app, a feature and an hour. A tally has the counts at one
-/// key. The book holds at most 10,000 keys, and at most 100 variants at each key. In contracts the book is the list of
-/// its keys in ascending order, each with its tally.
+/// key: how often the feature was on, how often off, and how often each variant was given. The book holds at most
+/// 10,000 keys, and at most 100 variants at each key. In contracts the book is the list of its keys in ascending order,
+/// each with its tally.
 #[derive(Drop)]
 pub struct MetricsBook {
     rows: Vec<Shared<Row>>,
@@ -113,9 +114,9 @@ impl MetricsBook {
     /// environment has no key.
     ///
     /// The report has the longest prefix of the environment's keys, in ascending order, for which the report's text is
-    /// at most 1,048,576 bytes. It has no key if the first key alone is too long. If the names of apps, features and
-    /// variants in the book and its hours are within the limits for reading a report, [`Report::read_bulk`] reads the
-    /// text back as the counts of the keys in the report.
+    /// at most 1,048,576 bytes. It has no key if the first key alone is too long. If the book's hours and its names of
+    /// apps, features and variants are within the limits for reading a report, [`Report::read_bulk`] reads the text
+    /// back as the counts of the keys in the report.
     ///
     /// # Errors
     /// `Memory`: out of memory.

@@ -8,7 +8,8 @@ ghost use Rattle.unl_metrics.specs.Bulk.{bulk, bulk_of_items, counted_data, room
 use crate::row::Row;
 use serde_json::{Map, Value};
 use std::alloc::Global;
-use unl_documents::to_value::{ToValue, put, put_value};
+use unl_documents::kind::AnyText;
+use unl_documents::to_value::{ListJson, put, put_value};
 use unl_documents::{Field, List, Memory, Shared, Text};
 
 /// The greatest length of a bulk report's text, in bytes.
@@ -78,7 +79,7 @@ fn bulk_value(alloc: Global, values: Vec<Value>) -> Result<Value, Memory>
     let mut members = Map::new(alloc);
     put_value(&mut members, alloc, Field::Metrics, Value::Array(values))?;
     let none: List<Text> = List::new(alloc);
-    put(&mut members, alloc, Field::Applications, &none)?;
+    put::<ListJson<AnyText>>(&mut members, alloc, Field::Applications, &none)?;
     Ok(Value::Object(members))
 }
 

@@ -12,14 +12,14 @@ ghost use Rattle.unl_metrics.specs.Book.{counted, counted_in, acknowledge, IsCou
 ghost use Rattle.unl_metrics.specs.Bulk.{bulk, bulk_data, bulk_length, longest_bulk, room_for};
 ghost use Rattle.unl_metrics.specs.Readable.{AreReadable, IsReadAs, IsSendable, entries_at};
 
-/// A book is a finite map: two books that have at each key the same tally, or both none, are equal.
+/// A book is a finite map: two books are equal if, at each key, both have the same tally or neither has one.
 pub fn books_are_maps()
     ensures { (a b : Book) → HasOrderedKeys a → HasOrderedKeys b → ((key : MetricKey) → tally_at key a ≡ tally_at key b) → a ≡ b }
 {}
 
-/// The sum of two books has at each key the sum of both tallies, and the sum of two tallies has at each variant the sum
-/// of both counts. If only one of them is there, the sum is that one. If the second book lists a key several times, all
-/// of these tallies are added. A sum keeps the keys in ascending order.
+/// At each key, the sum of two books has the sum of both tallies. At each variant, the sum of two tallies has the sum
+/// of both counts. If only one of the two tallies or counts is present, it is the sum. If the second book lists a key
+/// several times, all of its tallies at that key are added. A sum keeps the keys in ascending order.
 pub fn sums_are_sums_at_each_key()
     ensures entries { (book others : Book) (key : MetricKey) → tally_at key (sum_of book others)
         ≡ fold (and_more tally_sum) (tally_at key book) (tallies_at key others) }

@@ -86,8 +86,8 @@ fn variant_of(
     Ok(VariantCount { name, count })
 }
 
-/// Reads the counts of a feature in an app and an hour from an object. Absent and null keys count as 0 or as no
-/// variants.
+/// Reads an entry, the counts of a feature in an app during an hour, from the keys `yes`, `no` and `variants` of an
+/// object. A key that is absent or null counts as 0 or as no variants.
 #[tactic(auto, unfolding(crate::specs::Reports::entry_of))]
 fn entry_of(
     alloc: Global,
@@ -116,8 +116,8 @@ fn entry_of(
     })
 }
 
-/// Reads one toggle. First its key is checked, which is the feature's name. Then its value is checked, which is an
-/// object with counts.
+/// Reads one toggle, a member of the object at `toggles`. First its key is checked, which is the feature's name, and
+/// then its value, which must be an object with counts.
 #[tactic(auto, unfolding(crate::specs::Reports::toggle_of, unl_documents::specs::Kinds::object_of))]
 fn toggle_of(
     alloc: Global,
@@ -160,7 +160,7 @@ fn each_toggle(
     Ok(entries)
 }
 
-/// Reads the toggles of an app and an hour: an object from feature names to objects with counts, with at most 10,000
+/// Reads the toggles of an app in an hour: an object from feature names to objects with counts, with at most 10,000
 /// members. The number of members is checked before any member is read.
 #[tactic(auto, unfolding(crate::specs::Reports::members))]
 fn toggles_of(
@@ -185,8 +185,8 @@ fn toggles_of(
     each_toggle(alloc, app, hour, field, members)
 }
 
-/// Reads an app's bucket: its start, which is required and gives the hour of all entries, and its toggles, if there are
-/// any.
+/// Reads an app's bucket, an object. Its `start` is required and gives the hour of all entries. Its `toggles` give the
+/// entries; if that key is absent or null, there are no entries.
 #[tactic(auto, unfolding(crate::specs::Reports::bucket_of, unl_documents::specs::Kinds::defaulted))]
 fn bucket_of(alloc: Global, app: &Text, value: &Value) -> Result<List<MetricEntry>, BadDocument>
     requires { IsName app.now }
@@ -233,8 +233,13 @@ fn entries_of(
     }
 }
 
-impl Document for MetricEntry {
+/// How an entry of a bulk report is read from a JSON object.
+struct MetricEntryJson;
+
+impl Document for MetricEntryJson {
     ghost use Rattle.unl_metrics.specs.Reports.{bulk_entry_of};
+
+    type Out = MetricEntry;
 
     ghost reads_object = { bulk_entry_of };
 
@@ -259,6 +264,10 @@ pub(crate) fn read_bulk(alloc: Global, value: &Value) -> Result<Report, BadDocum
     ensures gives { Gives result (bulk_of (view value.now)) }
     ensures valid { IfOk result (λ report. AreReadable report.entries) }
 {
-    let entries = required::<ListOf<Object<MetricEntry>, 10_000>>(alloc, Field::Metrics, value)?;
+    let entries = required::<ListOf<Object<MetricEntryJson>, 10_000>>(
+        alloc,
+        Field::Metrics,
+        value,
+    )?;
     Ok(Report { entries })
 }

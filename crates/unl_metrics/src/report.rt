@@ -27,8 +27,8 @@ pub struct MetricEntry {
     pub app: Text,
     /// The feature's name.
     pub feature: Text,
-    /// The hour, in whole hours since 1970. It is less than 70,389,528, the number of hours from 1970 to the end of
-    /// 9999.
+    /// The hour, in whole hours since 1970. In a valid entry it is less than 70,389,528, the number of hours from 1970
+    /// to the end of 9999.
     pub hour: u32,
     /// How many times the feature was on.
     pub yes: u64,
@@ -60,9 +60,9 @@ impl Report {
     /// - Otherwise the first fault at a key. The keys are checked in this order: `appName`, `bucket`, in it `start`
     ///   and then `toggles`, and in each toggle `yes`, `no` and `variants`.
     ///
-    /// `toggles` has at most 10,000 members, and `variants` at most 100; otherwise the fault is `TooLarge`. The number
-    /// of members is checked before any member is read. Then the members are read in byte order of their keys. For each
-    /// member, first its key is checked, which must be a name, and then its value.
+    /// `toggles` has at most 10,000 members, and `variants` at most 100 (limits chosen by this project); otherwise the
+    /// fault is `TooLarge`. The number of members is checked before any member is read. Then the members are read in
+    /// byte order of their keys. For each member, first its key is checked, which must be a name, and then its value.
     pub fn read_single(alloc: Global, bytes: &[u8]) -> Result<Report, BadReport>
         ensures gives { Gives memory result (single_report_of bytes.now) }
         ensures valid { IfOk result IsReport }

@@ -16,6 +16,7 @@ use serde_json::{Map, Value};
 use std::alloc::Global;
 use std::cmp::Ordering;
 use std::marker::Model;
+use unl_documents::kind::{AnyText, AnyWhole};
 use unl_documents::to_value::{ToValue, put, put_value};
 use unl_documents::{Field, List, Memory, Text, TryClone};
 
@@ -112,7 +113,8 @@ fn entry_sum(alloc: Global, this: &MetricEntry, that: &MetricEntry) -> Result<Me
     })
 }
 
-/// The sum of two lists of variant counts: counts of the same variant are added. The names of the first list ascend.
+/// The sum of two lists of variant counts: counts of the same variant are added. The names of the first list
+/// must be in ascending order.
 fn variants_sum(
     alloc: Global,
     these: &List<VariantCount>,
@@ -128,7 +130,8 @@ fn variants_sum(
     Ok(List::from_vec(counts))
 }
 
-/// Adds a count to that of the same variant, or inserts it in order if there is none. The names ascend.
+/// Adds a count to that of the same variant, or inserts it in order if there is none. The names must be in ascending
+/// order.
 fn add_variant(
     counts: &mut Vec<VariantCount>,
     alloc: Global,
@@ -146,7 +149,8 @@ fn add_variant(
     Ok(())
 }
 
-/// The position of a name in the list, or where the name would be inserted, by binary search. The names ascend.
+/// The position of a name in the list, or where the name would be inserted, by binary search. The names must be in
+/// ascending order.
 fn place_of(counts: &[VariantCount], name: &str) -> usize
     requires { T (is_sorted (slice_cmp nat_cmp) (map pair counts.now)) }
     ensures place { result ≡ place (slice_cmp nat_cmp) name.now (map pair counts.now) }
@@ -173,15 +177,15 @@ impl Row {
         ensures { IfOk result (λ v. view v ≡ counted_data self.now) }
     {
         let mut members = Map::new(alloc);
-        put(&mut members, alloc, Field::Yes, &self.entry.yes)?;
+        put::<AnyWhole>(&mut members, alloc, Field::Yes, &self.entry.yes)?;
         let variants = variants_value(alloc, self.entry.variants.as_slice())?;
         put_value(&mut members, alloc, Field::Variants, variants)?;
         let hour = hour_text(alloc, self.entry.hour)?;
-        put(&mut members, alloc, Field::Timestamp, &hour)?;
-        put(&mut members, alloc, Field::No, &self.entry.no)?;
-        put(&mut members, alloc, Field::FeatureName, &self.entry.feature)?;
-        put(&mut members, alloc, Field::Environment, &self.environment)?;
-        put(&mut members, alloc, Field::AppName, &self.entry.app)?;
+        put::<AnyText>(&mut members, alloc, Field::Timestamp, &hour)?;
+        put::<AnyWhole>(&mut members, alloc, Field::No, &self.entry.no)?;
+        put::<AnyText>(&mut members, alloc, Field::FeatureName, &self.entry.feature)?;
+        put::<AnyText>(&mut members, alloc, Field::Environment, &self.environment)?;
+        put::<AnyText>(&mut members, alloc, Field::AppName, &self.entry.app)?;
         Ok(Value::Object(members))
     }
 }
@@ -199,7 +203,7 @@ fn members_of(alloc: Global, counts: &[VariantCount]) -> Result<Map<String, Valu
 {
     let mut members = Map::new(alloc);
     for count in counts {
-        let value = count.count.write(alloc)?;
+        let value = AnyWhole::write(alloc, &count.count)?;
         serde_json::put(&mut members, alloc, count.name.as_str(), value)?;
     }
     Ok(members)

@@ -23,8 +23,8 @@ pub(crate) fn copies(alloc: Global, rows: &[Shared<Row>]) -> Result<Vec<Shared<R
     Ok(copies)
 }
 
-/// The position of a row's key, or where the key would be inserted, by binary search. The rows are in ascending order
-/// of keys.
+/// The position of a row's key, or where the key would be inserted, by binary search. The rows must be in ascending
+/// order of keys.
 fn place_of(rows: &[Shared<Row>], row: &Row) -> usize
     requires { T (is_sorted key_cmp rows.now) }
     ensures place { result ≡ place key_cmp row.now.0 rows.now }
@@ -43,7 +43,8 @@ fn is_at(rows: &[Shared<Row>], place: usize, row: &Row) -> bool
     }
 }
 
-/// Adds a row's tally to the row with the same key, or inserts the row in order if there is none. The keys ascend.
+/// Adds a row's tally to the row with the same key, or inserts the row in order if there is none. The keys must be in
+/// ascending order.
 fn add_row(rows: &mut Vec<Shared<Row>>, alloc: Global, row: Shared<Row>) -> Result<(), Memory>
     requires { HasOrderedKeys rows.old.items }
     ensures { OnOk result (rows.new.items ≡ with_tally rows.old.items row) }
@@ -58,7 +59,8 @@ fn add_row(rows: &mut Vec<Shared<Row>>, alloc: Global, row: Shared<Row>) -> Resu
     Ok(())
 }
 
-/// The sum of two lists of rows: tallies with the same key are added. The keys of the first list ascend.
+/// The sum of two lists of rows: tallies with the same key are added. The keys of the first list must be in
+/// ascending order.
 pub(crate) fn sum_of(
     alloc: Global,
     rows: &[Shared<Row>],
@@ -76,7 +78,8 @@ pub(crate) fn sum_of(
     Ok(all)
 }
 
-/// The sum of the rows and the entries of a report for an environment. The keys of the rows ascend.
+/// The rows after the entries of a report are added for an environment. The keys of the rows must be in ascending
+/// order.
 pub(crate) fn report_sum(
     alloc: Global,
     rows: &[Shared<Row>],
