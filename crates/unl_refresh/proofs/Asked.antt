@@ -46,7 +46,7 @@ pub record Read (before after other_parts other_parts_after : PeerState) (left l
   pub same : other_parts_after ≡ other_parts
   pub ended : after ≡ record other_parts_after { left = left_after }
 
--- A read leaves the history and the replies to come.
+-- A read changes neither the history nor the replies to come.
 read_history : {before after other_parts other_parts_after : PeerState} {left left_after : Option (List ℕ)}
     → Read before after other_parts other_parts_after left left_after → history_of after ≡ history_of before
 read_history r = ap history_of r.ended ∙ ap history_of r.same ∙ sym (ap history_of r.begun)

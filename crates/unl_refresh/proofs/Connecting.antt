@@ -32,23 +32,23 @@ use Rattle.unl_tokens.specs.declared.token.Token.{Token}
 rose_within : (before first last after : ℕ) → before ≤ first → last ≤ after → Rose first last → Rose before after
 rose_within before first last after begins ends rose = omega (arith, begins, ends, rose)
 
--- no connection uses up nothing
+-- if no connection is made, no reply is used up
 pub none_taken : (replies : Option (List (List ℕ))) → replies ≡ option_map (λ list. drop 0 list) replies
 none_taken None = refl
 none_taken (Some list) = refl
 
--- the replies used up by some connections and then by others
+-- `some` connections and then `more` others use up `some + more` replies
 taken_both : (replies middle last : Option (List (List ℕ))) (some more : ℕ) → middle ≡ option_map (λ list. drop some list) replies
     → last ≡ option_map (λ list. drop more list) middle → last ≡ option_map (λ list. drop (some + more) list) replies
 taken_both None middle last some more first then = then ∙ ap (option_map (λ list. drop more list)) first
 taken_both (Some list) middle last some more first then =
     then ∙ ap (option_map (λ list. drop more list)) first ∙ ap Some (drop-drop more some list)
 
--- if no connection was made, at least zero were
+-- if nothing changed, at least zero connections were made
 pub connects_nothing : (replies : Option (List (List ℕ))) (faults : ℕ) → Connects 0 replies faults replies faults
 connects_nothing replies faults = record { later = omega arith; made = λ none. (0, omega arith, none_taken replies) }
 
--- after a fault `Connects` says nothing of the number
+-- after a fault of the peer, `Connects` holds with any lower bound
 pub after_fault : (least : ℕ) (replies replies_after : Option (List (List ℕ))) (faults faults_after : ℕ)
     → faults ≤ faults_after → Rose faults faults_after → Connects least replies faults replies_after faults_after
 after_fault least replies replies_after faults faults_after later rose = record { later = later; made = λ none. absurd (none rose) }
@@ -64,7 +64,7 @@ pub none_or_one : {request : List ℕ} {replies replies_after history history_af
 none_or_one {replies = replies} (inl (same, silent)) later = record { later = later; made = λ none. (0, omega arith, same ∙ none_taken replies) }
 none_or_one (inr part) later = record { later = later; made = λ none. (1, omega arith, part.one_reply) }
 
--- as above, for a report that may be absent
+-- as `none_or_one`, for a report of metrics that may be absent
 pub report_at_most_once : (found : Option (Data × ℕ)) (host token : List ℕ) (replies replies_after history history_after : Option (List (List ℕ)))
     (faults faults_after : ℕ) → AsksBulkAtMostOnce found host token replies history replies_after history_after → faults ≤ faults_after
     → Connects 0 replies faults replies_after faults_after
@@ -94,7 +94,7 @@ connects_fewer few connects = record {
 
 -- ---- what is installed after a refresh
 
--- what is installed is unchanged
+-- at most one publication was made if what is installed is unchanged
 pub same_at_most_once : (before after : Installed) → after ≡ before → PublishesAtMostOnce before after
 same_at_most_once before after same = subst (PublishesAtMostOnce before) (sym same) (record { places = refl; front = omega arith })
 
@@ -152,7 +152,7 @@ book_at_most_once {texts} {before} {coming} {outcome} {after} refreshes =
 
 -- ---- from the result of a refresh
 
--- as above, whatever the result is
+-- as `book_at_most_once`, whatever the result is
 pub book_result_at_most_once : (texts : List (List ℕ)) {before after : Installed} (coming : Option (List ℕ)) (reported : Result Outcome RefreshFault)
     → IfOk reported (λ outcome. RefreshesTokens texts before coming outcome after) → OnErr reported (after ≡ before) → PublishesAtMostOnce before after
 book_result_at_most_once texts coming (Ok outcome) takes fault = book_at_most_once takes
@@ -189,7 +189,7 @@ one_and_more more last faults_last (Ok a) few first then =
     connects_fewer (omega (arith, few, count)) (connects_both first then)
 one_and_more more last faults_last (Err e) few first then = tt
 
--- some connections, and then perhaps others
+-- some connections, and then perhaps others: the lower bound of the former still holds
 pub connects_still : {least : ℕ} {replies middle last : Option (List (List ℕ))} {faults faults_middle faults_last : ℕ}
     → Connects least replies faults middle faults_middle → Connects 0 middle faults_middle last faults_last → Connects least replies faults last faults_last
 connects_still {least} first then =

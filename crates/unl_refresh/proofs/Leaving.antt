@@ -1,4 +1,4 @@
--- Properties of what is installed that a refresh preserves.
+-- Properties of what is installed (the slots, the token book and the number of publications) that the refresh of a slot preserves.
 use Rattle.std.proofs.Common.{◌≡◌, ◌<◌, ◌==◌, ℕ, Bool, true, false, cond, length, not, List, Option, Result, Ok, Err, IfOk, OnErr, arith, refl, subst, sym}
 use Rattle.std.proofs.lemmas.Bool.Decides.{nat_tests}
 use Rattle.unl_delta.specs.declared.batch.Batch.{Batch}

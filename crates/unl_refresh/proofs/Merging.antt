@@ -1,4 +1,4 @@
--- The steps of a receiver that takes books and merges them into the metrics, as `Merges`.
+-- The steps of a receiver of metrics books satisfy `Merges`: it takes books from its queue and merges them into the metrics.
 use Rattle.std.proofs.Common.{◌≡◌, ◌∙◌, List, [], ◌∷◌, ◌++◌, Option, Some, None, append-nil, append_assoc, ap, refl, sym}
 use Rattle.std.specs.Prelude.{MatchOption, option_to_list}
 use Rattle.std.proofs.lemmas.List.Sums.{fold-append}
@@ -39,7 +39,7 @@ merges_held metrics metrics_after book before after had same now = by_now after.
       summed = stays.1;
     }
 
--- one `Merges` after another
+-- two steps, one after the other, satisfy `Merges` as one step
 pub merges_on : (first next last : Book) (before middle after : Intake) → Merges first before next middle → Merges next middle last after
     → Merges first before last after
 merges_on first next last before middle after one two =

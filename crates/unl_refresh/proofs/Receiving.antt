@@ -15,7 +15,7 @@ use Rattle.unl_refresh.specs.declared.outcome.RefreshFault.{RefreshFault}
 pub record Taking (start : Option (List ℕ)) (held : List ℕ) (left : Option (List ℕ)) : Type 0 where
   pub took : Takes start held left
 
--- All bytes are parsed as the bytes held, if these decide it.
+-- All bytes are parsed to the same result as the bytes held, if these are all of them or at least 16785409.
 reads_enough : (bytes held more : List ℕ) (reading : Result Got BadReply) → bytes ≡ held ++ more
     → (more ≡ []) ⊎ (16785409 ≤ length held) → IsReply held reading → IsReply bytes reading
 reads_enough bytes held more reading split (inl none) is =
@@ -40,7 +40,7 @@ same_reading (Some other) list read reading is known one =
 
 -- ---- causes
 
--- the error of a result, or another fault if the result has none
+-- the error of a result, or `other` if the result is `Ok`
 abbrev err_of : {T : Type 0} → RefreshFault → Result T RefreshFault → RefreshFault
 err_of other (Ok x) = other
 err_of other (Err fault) = fault

@@ -5,7 +5,7 @@ use Rattle.unl_refresh.specs.declared.ask.Ask.{Ask}
 use Rattle.unl_refresh.specs.SlotParameters.{SlotParameters, no_tags, parameters_of, slot_parameters, tag_of}
 use Rattle.unl_refresh.specs.declared.slot_poller.SlotPoller.{SlotPoller}
 
--- the pollers after one more token was added
+-- The parameters of the pollers so far and of the tokens that are left are those of all tokens, also after one more poller is created.
 pub fed_next : (host : List ℕ) (delta : Bool) (tokens environments : List (List ℕ)) (place : ℕ) (token environment : List ℕ)
     (before after : List SlotPoller) (slot_poller : SlotPoller) → place < length tokens → length environments ≡ length tokens
     → slot_poller.environment ≡ environment → slot_poller.ask ≡ record { host = host; token = token; delta = delta; tag = None }
@@ -53,7 +53,7 @@ all_fed host delta tokens environments place made few is =
 
 -- ---- their tags
 
--- the tags of the pollers after one more token, whose poller has no tag
+-- The tags of the pollers so far, and `None` for each token that is left, are `None` for each token, also after one more poller.
 pub untagged_next : (tokens : List (List ℕ)) (place : ℕ) (before after : List SlotPoller) (slot_poller : SlotPoller) → place < length tokens
     → slot_poller.ask.tag ≡ None → after ≡ before ++ slot_poller ∷ [] → map tag_of before ++ no_tags (drop place tokens) ≡ no_tags tokens
     → map tag_of after ++ no_tags (drop (place + 1) tokens) ≡ no_tags tokens

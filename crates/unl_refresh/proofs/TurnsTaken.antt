@@ -287,7 +287,7 @@ duty_of known upstream book slot_pollers = record {
   metrics = book;
 }
 
--- how a turn of a poller ended
+-- by the result: a whole turn of a poller was made, or the turn ended because memory ran out
 abbrev Turns : Result Unit Memory → Duty → Installed → PeerView → PollState → Type 0
 Turns result duty before peer after =
     ByResult result (MakesTurn duty.known duty.upstream duty.slot_pollers) (StopsInTurn duty.known duty.upstream duty.slot_pollers)
@@ -308,7 +308,7 @@ turn_made result known upstream book lent items duty before peer middle after sa
     both (Ok u) polls = (middle, takes, polls)
     both (Err e) stops = inr (middle, takes, stops)
 
--- as above, with the pollers as the vector has them afterwards
+-- how a turn ended, stated for the vector that the pollers were lent from: its items afterwards are the `count` lent pollers
 pub turn_left : (result : Result Unit Memory) (duty : Duty) (before installed : Installed) (peer peer_after : PeerView) (metrics : Book) (count : ℕ)
     (lent rest : List SlotPoller) → length lent ≡ count
     → Turns result duty before peer (poll_state installed (map tag_of lent) metrics peer_after)

@@ -9,12 +9,12 @@ abbrev pub weigh : {X : Type 0} → (X → ℕ) → List X → ℕ
 weigh h [] = 0
 weigh h (x ∷ xs) = h x + weigh h xs
 
--- Both lists have the same books, each equally often, in any order. This is stated by sums: for each function that gives every book
--- a weight, the weights of both lists have the same sum.
+-- Both lists have the same books, with the same multiplicities, in any order. This is stated by sums: for each function that gives every
+-- book a weight, the weights of both lists have the same sum.
 abbrev pub SameBooks : List Book → List Book → Type 0
 SameBooks xs ys = (h : Book → ℕ) → weigh h xs ≡ weigh h ys
 
--- a constructor of `Handover`
+-- what a pass knows, from its number of parts, the books put with it, and the books taken with it
 abbrev pub handover : ℕ → List Book → List Book → Handover
 handover parts handed taken = record { parts = parts; handed = handed; taken = taken }
 
@@ -22,7 +22,7 @@ handover parts handed taken = record { parts = parts; handed = handed; taken = t
 abbrev pub first_handover : Handover
 first_handover = handover 18446744073709551616 [] []
 
--- a pass with no part
+-- a pass with no part, which has put and taken nothing
 abbrev pub empty_handover : Handover
 empty_handover = handover 0 [] []
 

@@ -22,7 +22,8 @@ unfoldable pub metrics_request : List ℕ → List ℕ → Data → List ℕ
 metrics_request host token report =
     request_text Post (codes "/api/client/metrics/bulk") host (Some token) None (compact_text report)
 
--- the outcome of a report of `count` keys, from the result of parsing the reply: the statuses 200 and 202 accept the report
+-- the outcome of a report of `count` keys, from the result of parsing the reply: the statuses 200 and 202 accept the report, other
+-- statuses refuse it, and bytes that are not a valid reply give `BadAnswer`
 abbrev pub sent_by : ℕ → Result Got BadReply → MetricsOutcome
 sent_by count (Ok got) = if got.status == 200 || got.status == 202 then Sent count else Refused got.status
 sent_by count (Err bad) = BadAnswer bad

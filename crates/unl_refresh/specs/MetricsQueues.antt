@@ -19,7 +19,7 @@ pub record Sending : Type 0 where
   pub queue : TableId
   pub handed : List Book
 
--- What a receiver has taken in: the books that it has taken, in order, and the last of them if it is not merged yet.
+-- What a receiver has taken in: `taken` are the books that it has taken, in order, and `held` is the last of them if it is not merged yet.
 pub record Intake : Type 0 where
   pub taken : List Book
   pub held : Option Book

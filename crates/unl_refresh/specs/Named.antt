@@ -1,4 +1,5 @@
--- Outcomes and causes other than an allocation failure.
+-- Which outcomes of a refresh, and which reasons why a reply can't be parsed, report no allocation failure. (If memory runs out, the
+-- refresh returns an error and no outcome.)
 use Rattle.std.specs.Prelude.{◌≢◌, ⊤}
 use Rattle.unl_delta.specs.declared.fault.BadBatch.TheVariants.{Memory as no_memory_for_batch}
 use Rattle.unl_documents.specs.declared.fault.BadDocument.TheVariants.{Memory as no_memory_for_document}
@@ -9,7 +10,7 @@ use Rattle.unl_refresh.specs.declared.outcome.Bad.TheVariants.{Reply, Feed, NoNu
 use Rattle.unl_refresh.specs.declared.outcome.Outcome.{Outcome}
 use Rattle.unl_refresh.specs.declared.outcome.Outcome.TheVariants.{Published, Unchanged, Repeat, Old, Gap, Held, Refused, BadAnswer}
 
--- The cause is not an allocation failure.
+-- The reason is not an allocation failure.
 abbrev pub IsNamed : Bad → Type 0
 IsNamed (Reply fault) = fault ≢ no_memory_for_reply
 IsNamed (Feed fault) = fault ≢ no_memory_for_document

@@ -32,7 +32,7 @@ pub record RefreshState : Type 0 where
 abbrev pub refresh_state : Installed → Ask → PeerView → RefreshState
 refresh_state installed ask peer = record { installed = installed; ask = ask; peer = peer }
 
--- the request of an ask, with its tag
+-- the bytes of the request that has the parameters of the ask, with the ask's own tag
 abbrev pub asked_by : Ask → List ℕ
 asked_by ask = refresh_request ask.delta ask.host ask.token ask.tag
 

@@ -1,4 +1,4 @@
--- The effect of a server's reply on a slot.
+-- The request for what is new in a slot (the part of the board for one environment), and the effect of the server's reply on the slot.
 use Rattle.std.specs.Prelude.{◌≡◌, ℕ, ◌==◌, Bool, not, List, [], Option, Some, None, option_map, Result, Ok, Err, ok_or, codes}
 use Rattle.std.specs.Prelude.{if◌then◌else◌}
 use Rattle.unl_delta.specs.declared.batch.Batch.{Batch as TheBatch}
@@ -34,7 +34,7 @@ target_path delta = if delta then codes "/api/client/delta" else codes "/api/cli
 unfoldable pub refresh_request : Bool → List ℕ → List ℕ → Option (List ℕ) → List ℕ
 refresh_request delta host token tag = request_text Get (target_path delta) host (Some token) tag []
 
--- the ask with another tag
+-- the ask (the parameters of a request) with this tag in place of its own
 abbrev pub with_tag : Option (List ℕ) → Ask → Ask
 with_tag tag ask = record { host = ask.host; token = ask.token; delta = ask.delta; tag = tag }
 
@@ -45,7 +45,7 @@ abbrev pub delta_in : BatchReading → Result TheBatch Bad
 delta_in (Ok batch) = Ok batch
 delta_in (Err fault) = Err (Batch fault)
 
--- the batch of a feed, one hydration; an error if the body is no feed or the feed has no number
+-- the batch of a feed: one hydration (an event with the whole state); an error if the body is no feed or the feed has no number
 abbrev pub feed_read : Reading TheFeed → Result TheBatch Bad
 feed_read (Ok feed) = ok_or (batch_of_feed feed) NoNumber
 feed_read (Err fault) = Err (Feed fault)

@@ -167,7 +167,7 @@ PollsSlotsFrom slot [] before after = after ≡ before
 PollsSlotsFrom slot (parameters ∷ more) before after =
     (middle : PollState) × PollsSlot slot parameters before middle × PollsSlotsFrom (slot + 1) more middle after
 
--- Memory ran out at one of the slots from `slot` on. Those before it were polled, and those after it were not.
+-- Memory ran out at one of the slots from `slot` on. Of these, the slots before that one were polled, and those after it were not.
 abbrev pub StopsFrom : ℕ → List SlotParameters → PollState → PollState → Type 0
 StopsFrom slot [] before after = ⊥
 StopsFrom slot (parameters ∷ more) before after =

@@ -1,4 +1,5 @@
-//! The request for a slot's events or feed: its parameters and its text.
+//! The request for the events or the feed of a slot (the part of the board for one environment): its parameters and its
+//! text. An event is a change of the environment's flags, and a feed is all of them.
 ghost use Rattle.std.specs.Prelude.{◌≡◌, IfOk, IsTrue, option_copied};
 ghost use Rattle.unl_http_api.specs.RequestText.{fits_if_any, fits_line};
 ghost use Rattle.unl_refresh.specs.Refresh.{refresh_request, target_path};
@@ -16,12 +17,15 @@ pub struct Ask {
     pub token: Text,
     /// If true, the request is for events; if false, for a whole feed.
     pub delta: bool,
-    /// The entity tag of the last reply that the slot has in full, sent as `If-None-Match`. With it the server can
-    /// answer 304, or send only newer events. `None`: the server sends everything.
+    /// The entity tag of the last reply whose content the slot has in full, sent as `If-None-Match`. The server can
+    /// then reply with status 304 if nothing is newer, or send only newer events. `None`: the server sends everything.
     pub tag: Option<Bytes>,
 }
 
-/// Returns the text of the request of an ask, with `tag` in place of the ask's own tag.
+/// Returns the text of the request with the parameters `ask`, but with `tag` in place of the tag in `ask`.
+///
+/// # Errors
+/// `Memory`: out of memory.
 #[tactic(auto, unfolding(crate::specs::Refresh::refresh_request))]
 pub(crate) fn request_of(alloc: Global, ask: &Ask, tag: &Option<Bytes>) -> Result<Bytes, Memory>
     requires host { IsTrue (fits_line ask.now.host) }

@@ -1,6 +1,6 @@
-//! The requests of one turn: they refresh the token book and the slots, and send metrics. A `slot` is the index of an
-//! environment's slot on the board. The front is the number of publications so far. A fault of the peer is not an error
-//! of these functions; their only error is out of memory.
+//! The requests of one turn: they refresh the token book (the tokens that the server knows) and the slots, and send
+//! metrics. A `slot` is the index of an environment's slot on the board. The front is the number of publications so
+//! far. A fault of the peer is not an error of these functions; their only error is out of memory.
 ghost use Rattle.std.specs.Prelude.{◌≡◌, ◌≢◌, ◌<◌, ◌≤◌, ◌+◌, ◌-◌, ◌^◌, ℕ, Err, IsTrue, List, OnErr, OnOk, Option, length, map, set};
 ghost use Rattle.unl_delta.specs.Installing.{Installed};
 ghost use Rattle.unl_http_api.specs.RequestText.{fits_line};
@@ -167,7 +167,7 @@ pub(crate) fn poll_slots<I: Installer, P: Peer>(
     Ok(())
 }
 
-/// Returns `Memory` if the exchange ran out of memory. Drops every other result, also a fault of the peer.
+/// Returns `Memory` if the exchange ran out of memory. Drops every other result, including a fault of the peer.
 fn unless_memory<T: Drop>(exchange: Result<T, RefreshFault>) -> Result<(), Memory>
     ensures ok { OnOk result (exchange ≢ Err RefreshFault.Memory) }
     ensures err { OnErr result (exchange ≡ Err RefreshFault.Memory) }

@@ -1,4 +1,4 @@
-//! Reads the body of a server's reply as a batch.
+//! Reads the body of a server's reply as a batch, that is, as events that change the flags of an environment.
 ghost use Rattle.std.specs.Prelude.{◌≡◌, IfOk, IfErr};
 ghost use Rattle.unl_delta.specs.Reading.{batch_of_bytes};
 ghost use Rattle.unl_delta.specs.Valid.{IsValidBatch};
@@ -12,9 +12,9 @@ use unl_delta::{BadBatch, Batch, of_feed, read_batch_bytes};
 use unl_documents::{BadDocument, Memory, read_feed};
 
 /// Reads a body as a batch. If `delta`, events were requested, and the body is a batch of events; otherwise it is a
-/// feed, which becomes one hydration. `held` is the number of the slot's version, if the slot has one. A batch of
-/// events that lacks `after`, the number that it continues, is read as if `after` were `held`. The inner error says why
-/// the body can't be read.
+/// feed, which becomes one hydration (an event that replaces the whole state). `held` is the number of the slot's
+/// version, if the slot has one. A batch of events that lacks `after`, the number that it continues, is read as if
+/// `after` were `held`. The inner error says why the body can't be read.
 ///
 /// # Errors
 /// `Memory`: out of memory.

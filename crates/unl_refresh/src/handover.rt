@@ -17,7 +17,8 @@ pub struct Handover {
     pub taken: LinkedList<MetricsBook>,
 }
 
-/// The rule of a queue: the books that were put are those that were taken and those that wait, each equally often.
+/// The rule of a queue: the books that were put are those that were taken and those that wait, counted with
+/// multiplicity.
 pub struct ConservedBooks;
 
 impl Protocol<MetricsBook, Handover> for ConservedBooks {
@@ -29,7 +30,7 @@ impl Protocol<MetricsBook, Handover> for ConservedBooks {
     ghost first = { first_handover };
 }
 
-/// The effect of putting a book: the pass knows it as put.
+/// The effect of putting a book: it is appended to the books that were put with the pass.
 pub struct PutsBook;
 
 impl Outcome<MetricsBook, Handover> for PutsBook {
@@ -43,7 +44,7 @@ impl Lesson<MetricsBook, Handover> for PutsBook {
     ghost fact = { λ v items. Unit {0} };
 }
 
-/// The effect of taking a book: the pass knows it as taken.
+/// The effect of taking a book: it is appended to the books that were taken with the pass.
 pub struct TakesBook;
 
 impl Outcome<MetricsBook, Handover> for TakesBook {
@@ -57,8 +58,8 @@ impl Lesson<MetricsBook, Handover> for TakesBook {
     ghost fact = { λ v items. Unit {0} };
 }
 
-/// The fact about a pass with all parts: the books that it knows as put are those that it knows as taken and those that
-/// wait, each equally often.
+/// The fact about a pass with all parts: the books that were put are those that were taken and those that wait, counted
+/// with multiplicity.
 pub struct AllParts;
 
 impl Lesson<MetricsBook, Handover> for AllParts {

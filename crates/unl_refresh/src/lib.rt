@@ -1,5 +1,5 @@
 //! Keeps a board up to date with a server. A board has one slot for each environment. One exchange takes a batch of
-//! events or a whole feed for a slot ([`refresh_once`]), takes the token book of the board ([`refresh_tokens`]), or
+//! events or a whole feed for a slot ([`refresh_once`]), takes a token book for the board ([`refresh_tokens`]), or
 //! sends a bulk report of metrics ([`send_metrics`]). A [`Poller`] makes all these exchanges in each of its turns.
 //! Threads hand over what they count ([`MetricsSender`]) to the poller's thread ([`MetricsReceiver`]), through a queue
 //! ([`MetricsQueue`]). The contract of [`MetricsReceiver::all_counted`] says that each book that was handed over was

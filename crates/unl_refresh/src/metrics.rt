@@ -24,10 +24,11 @@ use unl_documents::Memory;
 use unl_http_api::{BadReply, Bytes, Got, Method, write_request};
 use unl_metrics::MetricsBook;
 
-/// Sends one report of the metrics of an environment: its first keys, as many as fit into 1,048,576 bytes (none if the
-/// first alone is too long). A key is a feature in an application during an hour, in an environment. If the server
-/// accepts the report (status 200 or 202), these keys are dropped from the book; otherwise the book is unchanged. If
-/// the environment has no keys, the peer isn't contacted.
+/// Sends one report of the metrics of an environment: its first keys, as many as fit into 1,048,576 bytes (a report
+/// without keys if the first alone is too long). A key is a feature in an application during an hour, in an
+/// environment. If the server accepts the report (status 200 or 202), these keys are dropped from the book; otherwise
+/// the book is unchanged. If the environment has no keys, the peer isn't contacted. `token` and `host` must have no CR,
+/// LF or NUL.
 ///
 /// # Errors
 /// `PeerFault` if the peer can't be connected to, written to or read; `Memory` if out of memory. The book is unchanged
@@ -49,7 +50,7 @@ pub fn send_metrics<P: Peer>(
         result book.new
         (peer_view (P.state peer.new) (P.Source.faults peer.new)) }
 
-    // If the peer's replies are observable, the reply that determines the outcome is the next one of them.
+    // If the peer's replies are observable and there is something to send, the next reply determines the outcome.
     ensures next_reply { (list : List (List ℕ)) (reading : Result Got BadReply) → (P.state peer.old).replies ≡ Some list
         → IsReply (next_of list) reading
         → IfOk result (OutcomeFromReply (bulk_of environment.now book.old) reading) }

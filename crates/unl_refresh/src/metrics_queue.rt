@@ -96,8 +96,8 @@ impl MetricsQueue {
         }
     }
 
-    /// Does nothing at run time. Proves that, if the pass has all parts, the books put are those taken and those that
-    /// wait, each equally often.
+    /// Does nothing at run time. The pass must have all parts. Proves that the books put are those taken and those that
+    /// wait, counted with multiplicity.
     pub(crate) fn all_counted(&self, pass: &mut MetricsPass)
         requires queue { IsPassOfMetrics self.now pass.old }
         requires whole { (known_by pass.old).parts ≡ 2 ^ 64 }

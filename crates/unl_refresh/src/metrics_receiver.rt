@@ -16,9 +16,9 @@ use unl_metrics::MetricsBook;
 
 /// Takes the metrics books that senders in other threads put into the queue.
 ///
-/// Its value in contracts has its queue, the number of its parts (`parts`), the books put into the queue by senders
-/// that were taken back (`handed`), and the books that it has taken, with the last of them if it is not merged yet
-/// (`intake`).
+/// Its value in contracts has its queue, the number of its parts (`parts`), the books handed over by those senders that
+/// it took back (`handed`), and what it has taken in (`intake`): all books that it has taken, and the held book: the
+/// last of them, if that is not merged yet.
 #[derive(Drop)]
 pub struct MetricsReceiver<'a> {
     queue: &'a MetricsQueue,
@@ -44,7 +44,7 @@ impl<'a> Model for MetricsReceiver<'a> {
 }
 
 impl<'a> MetricsReceiver<'a> {
-    /// Creates the receiver of a new queue, without senders.
+    /// Creates the receiver of a new queue, from a pass that has all parts. There are no senders yet.
     pub fn new(queue: &'a MetricsQueue, pass: MetricsPass) -> MetricsReceiver<'a>
         requires queue { IsPassOfMetrics queue.now pass }
         requires new { known_by pass ≡ first_handover }
@@ -113,7 +113,7 @@ impl<'a> MetricsReceiver<'a> {
         }
     }
 
-    /// Takes the oldest book that waits, and holds it. The receiver must not hold a book before. Returns whether a book
+    /// Takes the oldest book that waits, and holds it. The receiver must not already hold one. Returns whether a book
     /// waited (no contract says so).
     fn take_next<W: Wait>(&mut self, rt: &W) -> bool
         requires { self.old.intake.held ≡ None }
@@ -130,8 +130,8 @@ impl<'a> MetricsReceiver<'a> {
         }
     }
 
-    /// Consumes the receiver, and does nothing else at run time. Proves that, if the receiver has all parts (all
-    /// senders are back), the books handed over are those taken and those that wait, each equally often.
+    /// Consumes the receiver, and does nothing else at run time. The receiver must have all parts: all senders are
+    /// back. Proves that the books handed over are those taken and those that wait, counted with multiplicity.
     pub fn all_counted(self)
         requires { self.parts ≡ 2 ^ 64 }
         ensures { (waiting : List Book) × SameBooks self.entry.handed (self.entry.intake.taken ++ waiting) }

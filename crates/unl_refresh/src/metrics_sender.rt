@@ -56,7 +56,7 @@ impl<'a> MetricsSender<'a> {
         }
     }
 
-    /// Consumes the sender and returns its pass.
+    /// Consumes the sender and returns its pass, the right to use the queue.
     pub(crate) fn into_pass(self) -> MetricsPass
         ensures same { result.table_id ≡ self.entry.queue }
         ensures unused { result.me.1 ≡ [] }

@@ -1,4 +1,5 @@
-//! The outcomes and faults of refreshing a slot or the token book, and of sending metrics.
+//! The outcomes and faults of refreshing a slot (the part of the board for one environment) or the token book, and of
+//! sending metrics.
 ghost use Rattle.std.specs.Prelude.{◌≡◌};
 ghost use Rattle.unl_refresh.specs.declared.outcome.RefreshFault.TheVariants.{PeerFault as peer_fault, Memory as out_of_memory};
 
@@ -12,15 +13,16 @@ use unl_tokens::BadBook;
 /// The outcome of refreshing a slot or the token book.
 #[derive(Debug, Drop, PartialEq)]
 pub enum Outcome {
-    /// The batch or the token book in the reply was published. Carries the new front: the number of publications that
-    /// led to the new board.
+    /// The batch or the token book in the reply was published. Carries the new front: the number of publications so
+    /// far, including this one.
     Published(u64),
     /// The server has nothing new for the slot: status 304.
     Unchanged,
-    /// The slot already has all events of the batch, or the board already has the same token book.
+    /// The batch is empty, or the slot isn't held and already has all events of the batch; or the board already has the
+    /// same token book.
     Repeat,
     /// The batch is older than the slot's version: its epoch is lower; or it has the same epoch and begins with a
-    /// hydration, and the number of its last event is lower.
+    /// hydration (an event with the whole state), and the number of its last event is lower.
     Old,
     /// The batch begins with a change and doesn't continue the slot's version, so events may be missing. The slot is
     /// now held: it ignores changes until a hydration applies.
@@ -71,7 +73,8 @@ pub enum MetricsOutcome {
 /// Why a refresh failed, or why metrics could not be sent.
 #[derive(Clone, Copy, Debug, PartialEq, Eq, Error)]
 pub enum RefreshFault {
-    /// Connecting to the peer, writing to it or reading from it failed, and the peer's fault count rose.
+    /// Connecting to the peer (the server), writing to it or reading from it failed. In contracts, the peer's fault
+    /// count rose.
     #[error("the peer failed")]
     PeerFault,
     /// Memory ran out.

@@ -1,4 +1,5 @@
-//! The poller: in each of its turns it refreshes a board from an upstream server and sends metrics to that server.
+//! The poller: in each of its turns it refreshes a board (the token book, and a slot for each environment) from an
+//! upstream server, and sends metrics to that server.
 ghost use Rattle.std.specs.Prelude.{◌≡◌, ◌<◌, ◌≤◌, ◌+◌, ◌-◌, ◌^◌, [], All, IfOk, IsTrue, OnOk, length};
 ghost use Rattle.unl_http_api.specs.RequestText.{fits_line};
 ghost use Rattle.unl_refresh.specs.Connects.{Connects};
@@ -53,8 +54,9 @@ impl Model for Poller {
 impl Poller {
     /// Creates the poller of a board that has one slot for each of `upstream_tokens`. `environments` are the
     /// environments of the slots, in the same order. `upstream` is the server's `HOST:PORT`. `tokens` are the texts of
-    /// the tokens that the token book may contain. With `delta` the requests are for events, otherwise for whole feeds.
-    /// The poller has no metrics yet.
+    /// the tokens that the token book may contain. With `delta` the requests are for events (changes of flags),
+    /// otherwise for whole feeds (all flags). `upstream` and `upstream_tokens` must not contain CR, LF or NUL. The
+    /// poller has no metrics yet.
     ///
     /// # Errors
     /// `Memory` if out of memory.
@@ -91,7 +93,8 @@ impl Poller {
 
     /// Makes one request for the token book and one for each slot, and publishes what is new in the replies. After each
     /// slot's request it sends one report of the metrics of the slot's environment, if there are any. A fault of the
-    /// upstream doesn't end the turn.
+    /// upstream doesn't end the turn. Slots that the board doesn't have are skipped. Once the number of publications is
+    /// at its maximum, 2^64 - 1, only metrics are sent.
     ///
     /// # Errors
     /// `Memory` if out of memory. The turn ends then.
@@ -117,8 +120,8 @@ impl Poller {
             (poll_state (I.installed to.new) self.new.tags self.new.metrics
             (peer_view (P.state peer.new) (P.Source.faults peer.new))) }
 
-        // So, on the same conditions, if memory did not run out and the peer did not fail, at least one connection is
-        // made for the book and one for each slot. In any case each connection uses up one reply, unless the peer
+        // So, under the same conditions, if memory did not run out and the peer did not fail, at least one connection
+        // is made for each slot, and one for the book. In any case each connection uses up one reply, unless the peer
         // failed.
         ensures asks { (I.installed to.old).front + self.old.slots + 1 < 2 ^ 64 - 1
             → self.old.slots ≤ length (I.installed to.old).places → OnOk result (Connects (self.old.slots + 1)

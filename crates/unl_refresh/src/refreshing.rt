@@ -1,4 +1,4 @@
-//! Refreshes one slot from a server.
+//! Refreshes one slot (the part of the board for one environment) from a server.
 ghost use Rattle.std.specs.Prelude.{◌<◌, ◌-◌, ◌^◌, IsTrue, length};
 ghost use Rattle.unl_http_api.specs.RequestText.{fits_if_any, fits_line};
 ghost use Rattle.unl_refresh.specs.Exchange.{HasPeerCause, peer_view};
@@ -12,14 +12,15 @@ use std::alloc::Global;
 use unl_base::Peer;
 use unl_delta::Installer;
 
-/// Makes one request for what is new in a slot, and applies the reply: a batch of events, or a feed as one hydration. A
-/// batch that applies is published by one install. If the batch doesn't continue the slot's version (verdict
-/// [`Gap`](unl_delta::Verdict::Gap)), the slot is held: it ignores changes until a hydration applies. In all other
-/// outcomes the slot is unchanged.
+/// Makes one request for what is new in a slot, and applies the reply: a batch of events, or a feed as one hydration
+/// (an event with the whole state). A batch that applies is published in one publication. If the batch doesn't continue
+/// the slot's version (verdict [`Gap`](unl_delta::Verdict::Gap)), the slot is held: it ignores changes until a
+/// hydration applies. In all other outcomes the slot is unchanged. `slot` is the index of the slot, from 0. The number
+/// of publications so far must be below 2^64 - 1. The ask's host, token and tag must have no CR, LF or NUL.
 ///
 /// The ask's tag becomes the reply's tag if the reply was published or the slot already had all of it. The ask keeps
-/// its tag if the server had nothing new or refused. In all other cases, also on an error, the ask has no tag
-/// afterwards, so that the server sends everything next time.
+/// its tag if the server had nothing new (status 304) or replied with a status other than 200. In all other cases, also
+/// on an error, the ask has no tag afterwards, so that the server sends everything next time.
 ///
 /// # Errors
 /// `PeerFault` if the peer can't be connected to, written to or read; `Memory` if out of memory. Nothing is applied

@@ -19,7 +19,7 @@ pub(crate) struct SlotPoller {
 }
 
 /// Creates the poller of a slot for `environment`. Its first ask is what [`first_ask`] creates from the other
-/// arguments.
+/// arguments. The only error is out of memory.
 pub(crate) fn poller_with(
     alloc: Global,
     host: &Text,
@@ -38,8 +38,8 @@ pub(crate) fn poller_with(
     Ok(SlotPoller { environment, ask })
 }
 
-/// Creates the first ask to the server `host`: with a token, for events if `delta` and otherwise for a feed, and
-/// without a tag.
+/// Creates the parameters of a first request to the server `host` (`HOST:PORT`): with this token, for events if `delta`
+/// and otherwise for a whole feed, and without a tag, so that the server sends everything.
 ///
 /// # Errors
 /// `Memory` if out of memory.

@@ -1,4 +1,4 @@
-//! Applies a server's reply to a slot.
+//! Applies a server's reply to a slot (the part of the board for one environment).
 ghost use Rattle.std.specs.Prelude.{◌≡◌, ◌≢◌, ◌<◌, ◌-◌, ◌^◌, Some, None, IfOk, IfErr, OnErr, IsTrue, length};
 ghost use Rattle.unl_delta.specs.Batch.{verdict_of};
 ghost use Rattle.unl_delta.specs.Installing.{place_of};
@@ -23,7 +23,7 @@ pub(crate) struct AppliedReply {
     pub(crate) tag: Option<Bytes>,
 }
 
-/// Applies to a slot the result of parsing a reply. If `delta`, events were requested, otherwise a feed. `tag` is the
+/// Applies the result of parsing a reply to a slot. If `delta`, events were requested, otherwise a feed. `tag` is the
 /// tag that the request had.
 pub(crate) fn take_reading<I: Installer>(
     alloc: Global,
@@ -110,7 +110,7 @@ fn number_held<I: Installer>(to: &I, slot: usize) -> Option<u64>
     }
 }
 
-/// Applies a batch to a slot, by its verdict. `tag` is the tag of the reply that the batch came in.
+/// Judges a batch for a slot, and does what the verdict says. `tag` is the tag of the reply that the batch came in.
 fn follow_batch<I: Installer>(
     alloc: Global,
     to: &mut I,

@@ -1,4 +1,4 @@
-//! Refreshes the token book from a server.
+//! Refreshes the token book (the tokens that the server knows) from a server.
 ghost use Rattle.std.specs.Prelude.{◌≡◌, ◌≢◌, ◌<◌, ◌-◌, ◌^◌, List, ℕ, Some, Err, Result, IfOk, IfErr, OnErr, IsTrue, drop};
 ghost use Rattle.std.specs.Prelude.{option_map};
 ghost use Rattle.unl_base.specs.Doors.{next_of};
@@ -21,11 +21,12 @@ use unl_documents::{List, Memory, Text};
 use unl_http_api::{BadReply, Bytes, Got, Method, write_request};
 use unl_tokens::{BadBook, Book, write_request as write_texts};
 
-/// Asks a server once which of the tokens with these `texts` it knows (`POST /edge/validate`, as in Unleash Edge), and
-/// keeps from the book in its reply only the tokens with these texts. If the result differs from the current book, it
-/// is published, and the outcome is `Published` with the new front (the number of publications so far). Otherwise
-/// nothing changes, and the outcome is `Repeat` for the same book, `Refused` for a status other than 200, or
-/// `BadAnswer` for a reply that can't be parsed.
+/// Asks the server `host` (`HOST:PORT`) once which of the tokens with these `texts` it knows (`POST /edge/validate`, as
+/// in Unleash Edge), and keeps from the book in its reply only the tokens with these texts. If the book of the kept
+/// tokens differs from the current one, it is published, and the outcome is `Published` with the new front (the number
+/// of publications so far). Otherwise nothing changes, and the outcome is `Repeat` for the same book, `Refused` for a
+/// status other than 200, or `BadAnswer` for a reply that can't be parsed. Before the call, the front must be below
+/// 2^64 - 1. `host` must have no CR, LF or NUL.
 ///
 /// # Errors
 /// `PeerFault` if the peer can't be connected to, written to or read; `Memory` if out of memory. Nothing is applied
@@ -102,8 +103,8 @@ fn request_of(alloc: Global, texts: &List<Text>, host: &str) -> Result<Bytes, Me
     )
 }
 
-/// Installs the book in a reply, unless it is the current one. `reading` is the result of parsing the reply. If it has
-/// no book, nothing changes, and the outcome says why.
+/// Publishes those tokens of the book in a reply that have these texts, unless they are the current book. `reading` is
+/// the result of parsing the reply. If the reply has no book, nothing changes, and the outcome says why.
 fn take_book<I: Installer>(
     alloc: Global,
     to: &mut I,

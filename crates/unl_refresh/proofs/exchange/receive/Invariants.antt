@@ -2,7 +2,7 @@ use Rattle.std.proofs.Common.{◌≡◌, ◌-◌, ◌≤◌, length}
 use Rattle.unl_refresh.proofs.Receiving.{Taking}
 use Rattle.unl_refresh.proofs.exchange.receive.Given as goal
 
--- the bytes read so far are held
+-- the bytes read so far are held, and the peer has not failed
 abbrev pub invariant-loop-room : goal.invariant-loop-room
 invariant-loop-room g l = record {
   taking : Taking (g.P.Source.left l.initial.peer) l.reader (g.P.Source.left l.peer);
@@ -11,6 +11,6 @@ invariant-loop-room g l = record {
   still : g.P.Source.faults l.peer ≡ g.P.Source.faults l.initial.peer;
 }
 
--- each piece has at least one byte, and the loop ends at this count
+-- each piece has at least one byte, and the loop ends when 16785409 bytes are held
 abbrev pub decreases-loop-room : goal.decreases-loop-room
 decreases-loop-room g l = 16785409 - length l.reader

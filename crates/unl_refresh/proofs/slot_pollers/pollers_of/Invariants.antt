@@ -2,7 +2,7 @@ use Rattle.std.proofs.Common.{◌≡◌, ◌++◌, drop, length, map}
 use Rattle.unl_refresh.specs.SlotParameters.{no_tags, parameters_of, slot_parameters, tag_of}
 use Rattle.unl_refresh.proofs.slot_pollers.pollers_of.Given as goal
 
--- the tokens before this one have their pollers; those of the other tokens are still to be made
+-- the pollers of the tokens before this one are created; those of this token and the later ones are still to be created
 abbrev pub invariant-loop-place : goal.invariant-loop-place
 invariant-loop-place l = record {
   count : length l.slot_pollers.items ≡ l.place;
