@@ -1,4 +1,4 @@
--- The turns of a run, one after another.
+-- Lemmas for the contract of a run: what holds of the turns so far also holds with one more turn, and then of the whole run.
 use Rattle.std.proofs.Common.{◌≡◌, ◌<◌, ◌≤◌, ◌+◌, ◌-◌, ◌++◌, ◌∙◌, ℕ, List, [], ◌∷◌, drop, length, Option, Some, None, Result, Err, true, false, true≢false, zero, suc, nat_lt, ap, append_assoc, append-nil, arith, inl, inr, ⊎_elim, refl, subst, sym}
 use Rattle.std.proofs.lemmas.Bool.Decides.{nat_tests}
 use Rattle.std.proofs.lemmas.List.{drop-drop}
@@ -274,7 +274,7 @@ Reached_next ask asked same subject start mid now count turn_state next reached 
     Reached_more ask subject start mid now count turn_state next reached
     (of_the_run Sends ask asked same subject (count + 1) turn_state next mid now takes)
 
--- how a run ends if a turn fails
+-- the result of a run whose next turn fails: the fault of that turn, with the effect that `Runs` states for it
 pub cut_runs : {T : Type 0} (ask asked : Ask) → asked ≡ with_tag asked.tag ask → (subject : Subject) (start mid now : Endpoints) (count : ℕ)
     (turn_state next : TurnState) (most : ℕ) (pace : Option ℕ) (result : Result T FollowFault) (fault : FollowFault)
     → Reached ask subject start count turn_state mid → result ≡ Err fault

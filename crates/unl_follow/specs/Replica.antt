@@ -13,8 +13,9 @@ use Rattle.unl_tokens.specs.declared.token.Token.{Token}
 use Rattle.unl_follow.specs.declared.fault.ReplicaRefusal.{ReplicaRefusal}
 use Rattle.unl_follow.specs.declared.fault.ReplicaRefusal.TheVariants.{NotReady}
 
--- the state of a replica: the place (the newest version, if any, and whether the slot is held), the number of versions and books
--- that were published in the replica so far, and its book of tokens
+-- the state of a replica: the place (the newest version, if any, and whether the slot is held, that is, ignores changes until a whole
+-- state applies), the number of versions and of books of tokens that were published in the replica so far, and its current book of
+-- tokens
 pub record Kept : Type 0 where
   pub place : Place
   pub front : ℕ

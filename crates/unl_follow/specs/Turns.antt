@@ -71,13 +71,13 @@ follow_text delta subject (turn ∷ earlier) =
 
 -- ---- the replies, requests and draws of the turns
 
--- the reply on connection number `j`, counted from 0, if the replies are observable; no bytes after the last reply
+-- the reply on connection number `j`, counted from 0, if the replies are observable; empty if there are no more replies
 abbrev pub reply_at : Option (List (List ℕ)) → ℕ → Option (List ℕ)
 reply_at replies j = option_map (λ list. next_of (drop j list)) replies
 
 -- A turn received a reply or a fault. Before the turn, `i` replies were used up and there were `k` faults; after it, these
--- counts are `j` and `m`. A reply was parsed from the next one of the list (if the list is observable), which is used up. A fault
--- adds one to the faults, and may have used up a reply.
+-- counts are `j` and `m`. If a reply was received, it was parsed from the next item of the list (if the list is observable), and
+-- that item is used up. A fault adds one to the faults, and may have used up a reply.
 abbrev pub IsReceived : Option (List (List ℕ)) → ReplyOrFault → ℕ → ℕ → ℕ → ℕ → Type 0
 IsReceived replies (Some reading) i k j m = IsParsedFrom (reply_at replies i) reading × (j ≡ i + 1) × (m ≡ k)
 IsReceived replies None i k j m = ((j ≡ i) ⊎ (j ≡ i + 1)) × (m ≡ k + 1)

@@ -1,4 +1,5 @@
-//! The errors of a replica's evaluation and of a run.
+//! The errors of evaluating a feature with a replica, and of a run of `follow`, which polls a server and prints a line
+//! after each request.
 ghost use Rattle.std.specs.Prelude.{◌≡◌};
 ghost use Rattle.unl_follow.specs.declared.fault.FollowFault.TheVariants.{Memory as out_of_memory, WriteFault as write_fault};
 ghost use Rattle.unl_follow.specs.declared.fault.ReplicaRefusal.TheVariants.{Memory as no_memory};
@@ -8,10 +9,10 @@ use thiserror::Error;
 use unl_base::Failed;
 use unl_documents as documents;
 
-/// Why a replica can't evaluate.
+/// Why a replica can't evaluate a feature.
 #[derive(Clone, Copy, Debug, PartialEq, Eq, Error)]
 pub enum ReplicaRefusal {
-    /// No version was received yet.
+    /// The replica has not received a version of the environment yet.
     #[error("no version yet")]
     NotReady,
     /// Memory ran out.
@@ -30,7 +31,7 @@ impl From<documents::Memory> for ReplicaRefusal {
 /// Why a run of `follow` ended before all lines of its turns were written.
 #[derive(Clone, Copy, Debug, PartialEq, Eq, Error)]
 pub enum FollowFault {
-    /// The sink failed and incremented its fault count.
+    /// The sink failed, and its fault count rose.
     #[error("the output failed")]
     WriteFault,
     /// Memory ran out.

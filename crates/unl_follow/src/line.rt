@@ -48,7 +48,7 @@ fn line_of(
     format!(in alloc; "turn {number} {word} number {represents} on {on}\n")
 }
 
-/// Returns the word for the outcome of a turn. There is no outcome if the peer failed.
+/// Returns the word for the outcome of a turn. `None` means that the peer failed.
 fn word(alloc: Global, outcome: &Option<Outcome>) -> Result<String, AllocError>
     ensures { IfOk result (λ word. string_bytes word ≡ word_of outcome.now) }
 {

@@ -1,4 +1,4 @@
-//! One refresh of a replica.
+//! One refresh of a replica: a request to the server, and the effect of the reply.
 ghost use Rattle.std.specs.Prelude.{◌≡◌, ◌<◌, ◌≤◌, ◌+◌, ◌-◌, ◌^◌, IsTrue, OnErr};
 ghost use Rattle.unl_follow.specs.Replica.{installed_by};
 ghost use Rattle.unl_http_api.specs.RequestText.{fits_if_any, fits_line};
@@ -10,9 +10,12 @@ use std::alloc::Global;
 use unl_base::Peer;
 use unl_refresh::{Ask, Outcome, RefreshFault, refresh_once};
 
-/// Makes one request, for a delta or for a whole feed as `ask.delta` says, and judges the reply for the replica. If the
-/// reply applies, its version is published; after a gap the replica's slot is held; otherwise the replica is unchanged.
-/// Afterwards the ask has the tag for the next request, if there is one.
+/// Makes one request, for a delta or for a whole feed as `ask.delta` says. If the reply applies to the replica's
+/// version, the replica has the new version afterwards. If events may be missing between the replica's version and the
+/// reply (`Outcome::Gap`), the replica keeps its version and is held: it ignores changes until a whole state applies.
+/// Otherwise the replica is unchanged. Afterwards `ask.tag` is the tag to send with the next request, or `None`.
+///
+/// The ask's host, token and tag must have no CR, LF or NUL, and the replica's front must be less than 2^64 - 1.
 ///
 /// # Errors
 /// `PeerFault` if the peer can't be connected to, written to or read; `Memory` if out of memory. On both errors nothing

@@ -14,9 +14,9 @@ use unl_documents::{Memory, Shared};
 use unl_strategies::Moment;
 use unl_tokens::Book;
 
-/// A place, a token book, and the front, which is the number of installs so far. The place has the newest version of
-/// one environment, if any, and whether the slot is held. As an [`Installer`] a replica has one slot, whose number is
-/// 0.
+/// A local copy of one environment. It has a place, a token book, and the front, which is the number of installs so
+/// far. The place has the newest version of the environment, if any, and whether the slot is held (ignores changes
+/// until a whole state applies). As an [`Installer`] a replica has one slot, whose number is 0.
 #[derive(Drop)]
 pub struct Replica {
     place: Place,
@@ -50,8 +50,8 @@ impl Replica {
         }
     }
 
-    /// Evaluates the feature with this name, for a context at a moment, in the state of the replica's version. Returns
-    /// `Ok(None)` exactly if that state has no feature of this name.
+    /// Evaluates the feature with this name in the state of the replica's version, for a context at a moment (a time, a
+    /// random word and a host name). Returns `Ok(None)` exactly if that state has no feature with this name.
     ///
     /// # Errors
     ///

@@ -13,8 +13,8 @@ use unl_base::{Draws, Pace, Peer, Sink};
 use unl_refresh::Ask;
 
 /// Follows a server with a new replica for at most `turns` turns, and prints one line about a feature after each turn.
-/// Each turn but the first waits for the pace; if the pace has no more turns, the run ends. A turn takes one draw (a
-/// time and a random word), makes one request, and prints `turn K W number N on B`:
+/// Before each turn but the first, `pace` decides how long to wait; if it has no more turns, the run ends. A turn takes
+/// one draw (a time and a random word), makes one request, and prints `turn K W number N on B`:
 ///
 /// - K is the number of the turn, from 1.
 /// - W is the outcome of the request: `published`, `unchanged`, `repeat`, `old`, `gap`, `held`, `refused` and an HTTP
@@ -23,6 +23,8 @@ use unl_refresh::Ask;
 ///   and a dot precede the number.
 /// - B is `true` or `false`: whether the feature is on. It is `-` if there is no version or no such feature. The
 ///   feature is evaluated at the time and with the random word of the draw, and with an empty host name.
+///
+/// The ask must have no tag, and its host and token must have no CR, LF or NUL.
 ///
 /// # Errors
 /// `WriteFault` if the sink fails: a prefix of the text was sent. `Memory` if out of memory: only whole lines were

@@ -1,4 +1,4 @@
-//! The feature and context that a run evaluates.
+//! The feature that a run of `follow` evaluates, and the context of the evaluation.
 use std::marker::Model;
 use unl_context::Context;
 

@@ -21,9 +21,9 @@ use unl_refresh::{Ask, Outcome, RefreshFault};
 use unl_strategies::Moment;
 
 /// Makes turn `number`: takes one draw, sends one request to the peer, applies the reply to the replica, and writes the
-/// line of the turn to the sink. The request carries the tag of `ask`, if there is one. Afterwards `ask` has the tag
-/// for the next request, if there is one. A peer that fails is not an error: nothing is applied, the next request has
-/// no tag, and the line says `fault`.
+/// line of the turn to the sink. The request carries the tag of `ask`, if there is one. Afterwards `ask.tag` is the tag
+/// to send with the next request, or `None`. A peer that fails is not an error: nothing is applied, the next request
+/// has no tag, and the line says `fault`.
 ///
 /// # Errors
 /// `WriteFault` if the sink fails: a prefix of the line was written. `Memory` if out of memory: nothing was written.
@@ -86,7 +86,8 @@ pub(crate) fn turn<P: Peer, R: Draws, K: Sink>(
 }
 
 /// Sends one request to the peer, applies the reply to the replica, and returns the outcome. Returns `Ok(None)` if the
-/// peer failed. Afterwards `ask` has the tag for the next request, if there is one. The only error is out of memory.
+/// peer failed. Afterwards `ask.tag` is the tag to send with the next request, or `None`. The only error is out of
+/// memory.
 fn ask_once<P: Peer>(
     alloc: Global,
     replica: &mut Replica,

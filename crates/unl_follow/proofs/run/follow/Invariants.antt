@@ -6,7 +6,8 @@ use Rattle.unl_follow.specs.Replica.{installed_by}
 use Rattle.unl_follow.proofs.Turning.{Paced, Reached}
 use Rattle.unl_follow.proofs.run.follow.Given as goal
 
--- `made` turns were made
+-- the invariant of the loop of `follow`: `made` turns were made, which published at most `made` versions; the ask has changed only in
+-- its tag, which fits in a header line; and the fault count of the sink has not fallen
 abbrev pub invariant-loop-made : goal.invariant-loop-made
 invariant-loop-made g l = record {
   reached : Reached l.initial.ask l.subject
