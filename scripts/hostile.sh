@@ -10,7 +10,6 @@ cd "$(dirname "$0")/.."
 need curl
 need python3
 
-lifetime=120
 upstream_port=${UPSTREAM_PORT:-14542}
 edge_port=${EDGE_PORT:-13363}
 

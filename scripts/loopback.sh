@@ -65,7 +65,7 @@ same "another command" '{"number":2}' "$(put b)"
 tries=0
 until test "$(ask "$edge_port" '*:dev.front' /api/frontend)" = "{\"toggles\":[$(toggle a),$(toggle b)]}"; do
     tries=$((tries + 1))
-    test "$tries" -lt 50 || fail "the edge isn't refreshed"
+    test "$tries" -lt 200 || fail "the edge isn't refreshed"
     sleep 0.1
 done
 
@@ -125,7 +125,7 @@ begin_again --epoch 1
 tries=0
 until test "$(ask "$edge_port" '*:dev.front' /api/frontend)" = "{\"toggles\":[$(toggle a)]}"; do
     tries=$((tries + 1))
-    test "$tries" -lt 50 || fail "the edge doesn't follow into a later epoch"
+    test "$tries" -lt 200 || fail "the edge doesn't follow into a later epoch"
     sleep 0.1
 done
 alike /api/client/delta '*:dev.client'

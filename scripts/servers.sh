@@ -28,32 +28,33 @@ program=${PROGRAM:-crates/unl_edge/out/unl_edge}
 test -x "$program" || (cd crates/unl_edge && rt run -- replay </dev/null >/dev/null 2>&1)
 test -x "$program" || fail "the program isn't built"
 
-# Starts a command in the background, for at most `lifetime` seconds (60 by default). The command reads the standard input of this
-# function, passed on as descriptor 3, since a shell gives a background command an empty standard input. Sets `last` to the process id.
-# The error stream is appended to `$work/log`.
+# Starts a command in the background. The command reads the standard input of this function, passed on as descriptor 3, since a shell
+# gives a background command an empty standard input. Sets `last` to the process id. The error stream is appended to `$work/log`. The
+# command is stopped after `lifetime` seconds (600 by default), in case the script is killed: longer than a script takes, however slow.
 start() {
     exec 3<&0
-    timeout "${lifetime:-60}" "$@" <&3 3<&- 2>>"$work/log" &
+    timeout "${lifetime:-600}" "$@" <&3 3<&- 2>>"$work/log" &
     last=$!
     exec 3<&-
     started="$started $last"
 }
 
-# sends a request: the port, the token, the path, and then further arguments for curl
+# Sends a request: the port, the token, the path, and then further arguments for curl. The server closes the connection after its
+# answer, so a server with `--connections` counts it once, however long curl takes to close its own side.
 ask() {
     port=$1
     token=$2
     path=$3
     shift 3
-    curl --silent --max-time 5 --header "Authorization: $token" "$@" "http://127.0.0.1:$port$path"
+    curl --silent --max-time 20 --header "Authorization: $token" --header 'Connection: close' "$@" "http://127.0.0.1:$port$path"
 }
 
-# waits at most some seconds until the server at a port answers its health check: the port, and the server's name in error messages
+# waits until the server at a port answers its health check, for some 20 seconds: the port, and the server's name in error messages
 wait_for() {
     tries=0
     until ask "$1" - /internal-backstage/health >"$work/health" 2>/dev/null; do
         tries=$((tries + 1))
-        test "$tries" -lt 50 || fail "$2 doesn't listen"
+        test "$tries" -lt 200 || fail "$2 doesn't listen"
         sleep 0.1
     done
     same "$2's health" '{"status":"OK"}' "$(cat "$work/health")"

@@ -24,7 +24,7 @@ comes() {
     tries=0
     until test "$(on)" = "$1"; do
         tries=$((tries + 1))
-        test "$tries" -lt 60 || fail "$2 by $mode: $(on), log: $(cat "$work/log")"
+        test "$tries" -lt 200 || fail "$2 by $mode: $(on), log: $(cat "$work/log")"
         sleep 0.1
     done
 }
@@ -45,7 +45,7 @@ for mode in feed delta; do
     tries=0
     until test "$(curl --silent "http://127.0.0.1:$server_port/reports")" = 1; do
         tries=$((tries + 1))
-        test "$tries" -lt 60 || fail "the counts don't reach the server by $mode"
+        test "$tries" -lt 200 || fail "the counts don't reach the server by $mode"
         sleep 0.1
     done
     kill "$server" "$edge"

@@ -28,12 +28,12 @@ edge="edge --upstream h:1 --upstream-tokens *:e.s"
 writes "unl_edge: no command is given"
 writes "unl_edge: the first argument names no command" egde
 writes "usage: unl_edge COMMAND [--OPTION VALUE ..]" --help
-writes "unl_edge replay: argument 2 is no option" replay x
+writes "unl_edge replay: argument 2 is not an option" replay x
 writes "usage: unl_edge load --seed N --count N" load --help
 writes "unl_edge load: --count is missing" load --seed 1
 writes "unl_edge load: --seed is given twice" load --seed 1 --seed=2
-writes "unl_edge load: --count has no value behind it; one that begins with a hyphen is written --OPTION=VALUE" load --seed 1 --count
-writes "unl_edge load: --counts is no option of it" load --seed 1 --counts 2
+writes "unl_edge load: --count has no value after it; one that begins with a hyphen is written --OPTION=VALUE" load --seed 1 --count
+writes "unl_edge load: there is no option --counts" load --seed 1 --counts 2
 writes "unl_edge load: --count is no number: 1 to 1000000" load --seed 1 --count=x
 writes "unl_edge load: --count is out of range: 1 to 1000000" load --count 0 --seed 1
 writes "unl_edge check: --now is out of range: 0 to 100000000000000" check --now 100000000000001
@@ -54,7 +54,7 @@ kit=$(sed -n 's/.*(`rt version` said `\(rattle-kit-[^ ]*\) logic \([0-9a-f]*\)`.
 writes "unl_edge 1.0.0, proved with $kit" --version
 
 runs=$keeping
-writes "unl_durable_upstream: the first argument is to be the path of the database"
+writes "unl_durable_upstream: the first argument must be the path of the database"
 writes "usage: unl_durable_upstream FILE --secret TEXT --environments LIST" --help
 writes "unl_durable_upstream: --secret is missing" "$work/kept.db"
 writes "unl_durable_upstream: --environments has too many items, or two alike: 1 to 8 different names of at most 255 bytes" \

@@ -1,7 +1,8 @@
 #!/bin/sh
 # Tests an edge with 16 workers under load. A slow or idle connection delays no other one while a worker is free. A reset ends only its own
-# connection. After 2,000 connections in sequence and 64 at once, its memory has grown by at most 4 MiB. Run after `rt ci` or `rt run`.
-# Skipped if python3 or curl is missing.
+# connection. After 2,000 connections in sequence and 64 at once, its memory has grown by at most 4 MiB. A late answer is asked for again
+# if that of a plain server in Python was late at the same time, as in door.sh. Run after `rt ci` or `rt run`. Skipped if python3 or curl
+# is missing.
 set -u
 cd "$(dirname "$0")/.."
 

@@ -16,6 +16,8 @@ import sys
 import tempfile
 
 SECONDS = 240
+# A `sleep` of a document gives a server the time to start or to follow. Here it takes this many seconds longer, for a busy machine.
+LONGER = 4
 MARK = "--- the command in this place has ended:"
 
 
@@ -49,7 +51,8 @@ def pattern_of(lines):
 
 def run(folder, commands):
     """Runs the commands. Returns the standard output of each one, and the error stream of all."""
-    text = "".join(f"{command}\necho; echo '{MARK}'\n" for command, _ in commands)
+    text = f"sleep() {{ command sleep $(($1 + {LONGER})); }}\n"
+    text += "".join(f"{command}\necho; echo '{MARK}'\n" for command, _ in commands)
     environment = {**os.environ, "TMPDIR": folder}
     shell = subprocess.Popen(["sh"], cwd=folder, stdin=subprocess.PIPE, stdout=subprocess.PIPE, stderr=subprocess.PIPE, text=True,
                              env=environment, start_new_session=True)

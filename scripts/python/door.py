@@ -69,31 +69,41 @@ def asked_twice(kept, port, timeout):
 
 
 class Control(threading.Thread):
-    """Starts a plain server in a process of its own, and polls it just as the tested servers are polled. Notes when answers were late."""
+    """Starts a plain server in a process of its own, and polls it just as the tested servers are polled. Notes when answers were late: not
+    there `soon` seconds after the one before. The pause between two polls counts, so that no stall of this process goes unnoticed."""
 
-    def __init__(self):
+    def __init__(self, soon=SOON):
         super().__init__(daemon=True)
+        self.soon = soon
+        self.over = threading.Event()
         self.server = subprocess.Popen([sys.executable, __file__, "control"], stdout=subprocess.PIPE)
         self.port = int(self.server.stdout.readline())
         self.slowest = 0.0
-        # for each poll that was late, the times at which it began and ended
+        # for each answer that was late, the time of the answer before and its own
         self.late = []
+        # the time of the last answer
         self.begun = time.monotonic()
 
     def run(self):
         kept = connect(self.port, MOST_STALL)
-        while True:
-            self.begun = time.monotonic()
+        while not self.over.wait(0.05):
+            asked = time.monotonic()
             found = asked_twice(kept, self.port, MOST_STALL)
             ended = time.monotonic()
             assert found == [200, 200]
-            self.slowest = max(self.slowest, ended - self.begun)
-            if ended - self.begun > SOON:
+            self.slowest = max(self.slowest, ended - asked)
+            if ended - self.begun > self.soon:
                 self.late.append((self.begun, ended))
-            time.sleep(0.05)
+            self.begun = ended
+
+    def stop(self):
+        """Ends the polls and then the server, so that no poll fails."""
+        self.over.set()
+        self.join()
+        self.server.kill()
 
     def was_late(self, begun, ended):
-        """Whether an answer of the control was late at some time between these two. Waits until the polls up to `ended` are done."""
+        """Whether an answer of the control was late at some time between these two. Waits for an answer after `ended`."""
         while self.is_alive() and self.begun <= ended:
             time.sleep(0.01)
         return any(first < ended and begun < last for first, last in self.late)
@@ -329,9 +339,13 @@ def trickled(program, port):
     upstream.start()
     words = ["edge", "--port", str(port), "--upstream", f"127.0.0.1:{upstream.port}", "--tokens", "*:dev.c"]
     words += ["--upstream-tokens", "*:dev.c,*:prod.c"]
+    begun = time.monotonic()
     edge = subprocess.Popen([program, *words], stdin=subprocess.DEVNULL, stdout=subprocess.DEVNULL, stderr=subprocess.DEVNULL)
-    within(lambda: upstream.waited, seconds=40)
-    if not upstream.waited or not 29 < upstream.waited[0] < 33:
+    within(lambda: upstream.waited, seconds=60)
+    ended = time.monotonic()
+    # The exchange begins after `begun`, so it was too short if `ended` comes too soon. The upstream may notice its begin late, and its
+    # end too: it took too long only if the control was in time.
+    if not upstream.waited or ended - begun < 29 or upstream.waited[0] > 33 and not control.was_late(begun, ended):
         notes.append(f"an upstream that trickles: {upstream.waited}")
     judged("an edge behind an upstream that trickles", lambda: asked_once(port))
     edge.kill()
@@ -388,14 +402,15 @@ def main(words):
         check.join()
     if not control.is_alive():
         notes.append("the control failed")
-    control.server.kill()
+    control.stop()
     for note in notes[:20]:
         print(note)
     again = f"; played again, since the machine stalled: {', '.join(repeated)}" if repeated else ""
     print(f"the slowest answer took {max(waits):.2f} s, the control's {control.slowest:.2f} s{again}")
 
 
-if sys.argv[1:] == ["control"]:
-    serve_plainly()
-else:
-    main(sys.argv[1:])
+if __name__ == "__main__":
+    if sys.argv[1:] == ["control"]:
+        serve_plainly()
+    else:
+        main(sys.argv[1:])

@@ -12,12 +12,17 @@ import time
 
 from wire import HEALTH, SOON, answered, connect, reply_of, rest_of, statuses, within
 
+# how long a server gets for what no answer shows, in seconds: a moment would do, unless the machine stalls
+CALM = 4.0
+
 
 def started(program, command, port, library, **calls):
     """Starts a server, and returns when it answers. `calls` sets FAIL_ACCEPT or FAIL_WAIT to a path: such calls fail once it exists."""
     words = [program, command, "--port", str(port)]
     if command == "edge":
         words += ["--upstream", "127.0.0.1:1", "--upstream-tokens", "*:dev.c", "--tokens", "*:dev.c", "--workers", "2"]
+        # an edge ends after the interval in which its door has ended
+        words += ["--interval", "1"]
     else:
         words += ["--secret", "s", "--environments", "dev", "--client-tokens", "*:dev.c", "--frontend-tokens", "*:dev.f"]
     settings = dict(os.environ, LD_PRELOAD=library, **calls)
@@ -64,11 +69,11 @@ def accepting_fails(notes, program, command, port, library, is_silent):
         silent = [connect(port) for _ in range(3 if is_silent else 0)]
         answered(port, HEALTH)
         # For a moment after its answer a link waits for a further request. If accepting failed meanwhile, the link would be closed.
-        time.sleep(0.5)
+        time.sleep(CALM)
         open(path, "w").close()
         begun = time.monotonic()
         connect(port).close()
-        time.sleep(0.5)
+        time.sleep(CALM)
         for link, rest in zip(links, (HEALTH, HEALTH[9:], HEALTH)):
             link.sendall(rest)
             if (found := last_answer(link)) != [200]:
@@ -90,7 +95,7 @@ def waiting_fails(notes, program, command, port, library):
             reply_of(link)
         silent_one = connect(port)
         answered(port, HEALTH)
-        time.sleep(0.5)
+        time.sleep(CALM)
         # The server is stopped so that one wait, the last that succeeds, reports all requests.
         os.kill(server.pid, signal.SIGSTOP)
         for link in links:

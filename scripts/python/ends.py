@@ -3,6 +3,7 @@
 Arguments: the program, a port for it to listen at, and a port for its upstream. Prints each difference from the expected result. An
 input fails after a prefix of its bytes, an output fails past a size limit, and connections and upstreams follow the tables below.
 """
+import itertools
 import json
 import re
 import resource
@@ -191,12 +192,12 @@ TOGGLES = request(b"/api/frontend", b"*:dev.f")
 TWO = b"connections 2\n"
 
 
-def asked(run, pieces):
-    """Sends the pieces on a new connection, once the program listens. Returns the reply."""
-    link = within(lambda: connect(PORT), run.lives)
-    with link:
-        link.sendall(pieces)
-        link.shutdown(socket.SHUT_WR)
+def asked(run, text):
+    """Sends a request on a new connection, once the program listens. Returns the reply. The request asks the program to close the
+    connection, which then counts once. One that stays open counts again if it pauses before its client ends it."""
+    line, rest = text.split(b"\r\n", 1)
+    with within(lambda: connect(PORT), run.lives) as link:
+        link.sendall(line + b"\r\nConnection: close\r\n" + rest)
         return reply_of(link)
 
 
@@ -400,7 +401,8 @@ OF_SDK = (b"User-Agent: shop\r\nUNLEASH-APPNAME: shop\r\nUNLEASH-INSTANCEID: i-1
 
 def play_polls():
     """Checks that polls of an unchanged state are answered with 304, also if their bytes arrive in pieces."""
-    with Upstream(UPSTREAM_PORT, replies_by_path([hydration(5, ON)], [CLIENT_BOOK])):
+    # the book is the same in each turn, so that it doesn't matter how many turns are made meanwhile
+    with Upstream(UPSTREAM_PORT, replies_by_path([hydration(5, ON)], itertools.repeat(CLIENT_BOOK))):
         run = Run(of_edge("--connections", "1", tokens="*:dev.c"), whole(b""))
         with within(lambda: connect(PORT), run.lives) as link:
             link.sendall(request(b"/api/client/features", CLIENT))
@@ -437,15 +439,29 @@ REPORT_OF_A = (b'{"appName":"shop","bucket":{"start":"2024-01-01T10:05:00Z","tog
 
 
 def play_turns():
-    """Keeps a connection open over several turns. The second turn gets no token book, and turns the feature on. The third turn gets an
-    unreadable token book. Another connection sends metrics. A turn sends them to the upstream, which refuses them once, so the next
-    turn sends them again."""
-    replies = replies_by_path([hydration(5, OFF), hydration(6, ON)], [BOOK, BUSY, reply(b"[]")], [BUSY])
-    with Upstream(UPSTREAM_PORT, replies) as upstream:
+    """Keeps a connection open over several turns. Once the feature was seen to be off, a turn gets no token book, and turns the
+    feature on. The next turn gets an unreadable token book. Another connection sends metrics. A turn sends them to the upstream, which
+    refuses them once, so the next turn sends them again."""
+    was_off, had_no_book = threading.Event(), threading.Event()
+
+    def books():
+        while not was_off.is_set():
+            yield BOOK
+        had_no_book.set()
+        yield BUSY
+        yield reply(b"[]")
+
+    def states():
+        while not had_no_book.is_set():
+            yield hydration(5, OFF)
+        yield hydration(6, ON)
+
+    with Upstream(UPSTREAM_PORT, replies_by_path(states(), books(), [BUSY])) as upstream:
         run = Run(of_edge("--connections", "3", "--workers", "2"), whole(b""))
         with within(lambda: connect(PORT), run.lives) as kept:
             kept.sendall(TOGGLES)
             check("before the turn", (200, NONE), reply_of(kept))
+            was_off.set()
             check("the same link, after the turn", True, within(lambda: shows(kept, A_IS_ON), run.lives))
             report = request(b"/api/frontend/client/metrics", b"*:dev.f", REPORT_OF_A, b"Content-Type: application/json\r\n")
             check("a report", 202, asked(run, report)[0])

@@ -20,6 +20,8 @@ PROGRAM, SHIM, UPSTREAM_PORT, EDGE_PORT = sys.argv[1], sys.argv[2], int(sys.argv
 DONE, READ_FAULT, WRITE_FAULT, OUT_OF_MEMORY, DOOR_FAULT = 0, 4, 5, 6, 7
 # the number of concurrent runs of an edge; they are concurrent since each takes a second or more, the interval between two turns
 AT_ONCE = 8
+# a limit for what a server does in about a second, in seconds; it allows for a machine that stalls for some seconds
+LONG = 20
 INTERNAL = b'HTTP/1.1 500 Internal Server Error\r\nContent-Length: 0\r\nConnection: close\r\n\r\n'
 failures = []
 
@@ -74,13 +76,14 @@ TOGGLES = b'GET /api/frontend HTTP/1.1\r\nHost: x\r\nAuthorization: *:dev.front\
 
 
 def exchanged(process, port):
-    """A server's answers to two requests on one connection. None if the server ends, or refuses to connect for some seconds. Empty if the
+    """A server's answers to two requests on one connection. None if the server ends, or refuses to connect for LONG seconds. Empty if the
     connection fails."""
-    for _ in range(2000):
+    until = time.monotonic() + LONG
+    while time.monotonic() < until:
         if process.poll() is not None:
             return None
         try:
-            with socket.create_connection(('127.0.0.1', port), timeout=5) as link:
+            with socket.create_connection(('127.0.0.1', port), timeout=LONG) as link:
                 link.sendall(ASK + TOGGLES)
                 answer = b''
                 while piece := link.recv(65536):
@@ -111,10 +114,14 @@ def served(words, ports, path='/dev/null'):
         with open(path, 'rb') as source:
             process = started([*words, '--port', str(port), '--connections', '1'], source, **calls)
             answers = []
-            while process.poll() is None and len(answers) < 5:
-                answers.append(exchanged(process, port))
+            for _ in range(5):
+                answer = exchanged(process, port)
+                if answer is not None:
+                    answers.append(answer)
+                # A server that has answered ends, an edge after its interval. One that hasn't may wait for another connection.
                 try:
-                    process.wait(timeout=0.5)
+                    process.wait(timeout=LONG if answer else 0.5)
+                    break
                 except subprocess.TimeoutExpired:
                     pass
             process.kill()

@@ -5,8 +5,9 @@ import struct
 import threading
 import time
 
-# the limit for an answer, in seconds
-SOON = 10
+# The limit for an answer, in seconds. It allows for a machine that stalls for some seconds. It is below 30 seconds, after which a server
+# ends by itself a connection that should have ended before.
+SOON = 20
 
 
 def connect(port, timeout=SOON):

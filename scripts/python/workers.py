@@ -7,7 +7,8 @@ import sys
 import threading
 import time
 
-from wire import HEALTH, answered, connect, memory_of, request, reset, started_by, statuses
+from door import Control
+from wire import HEALTH, answered, connect, memory_of, reply_of, request, reset, started_by
 
 FRONT = b"*:dev.front"
 TOGGLES = request(b"/api/frontend", FRONT)
@@ -15,8 +16,11 @@ CLOSING = request(b"/api/frontend", FRONT, fields=b"Connection: close\r\n")
 AT_ONCE = 64
 # the limit for an answer while other connections are open, in seconds
 SOON = 1.0
+# how often an answer is asked for at most, if the machine stalls each time
+MOST_TRIES = 10
 # the memory that an allocator may retain, in KiB
 SLACK = 4_096
+control = Control(SOON)
 
 
 def check(name, is_as, found):
@@ -25,20 +29,28 @@ def check(name, is_as, found):
 
 
 def soon(port, name):
-    """Checks that an answer arrives within the limit."""
-    begun = time.monotonic()
-    check(name, [200], answered(port, CLOSING))
-    took = time.monotonic() - begun
-    if took > SOON:
-        print(f"{name}: an answer took {took:.2f} seconds")
+    """Checks that an answer arrives within the limit. One that is late while the control's is late too is asked for again."""
+    for _ in range(MOST_TRIES):
+        begun = time.monotonic()
+        check(name, [200], answered(port, CLOSING))
+        ended = time.monotonic()
+        if ended - begun <= SOON:
+            return
+        if not control.was_late(begun, ended):
+            print(f"{name}: an answer took {ended - begun:.2f} seconds")
+            return
+    print(f"{name}: the machine stalled {MOST_TRIES} times")
 
 
 def drip(link, ended):
-    """Sends a request at one byte per second."""
+    """Sends a request at one byte per second, until the time for a request is over and the server closes the connection."""
     for at in range(len(TOGGLES)):
         if ended.wait(1.0):
             return
-        link.sendall(TOGGLES[at : at + 1])
+        try:
+            link.sendall(TOGGLES[at : at + 1])
+        except ConnectionError:
+            return
 
 
 def beside_slow_links(port, workers):
@@ -49,7 +61,7 @@ def beside_slow_links(port, workers):
     slow.start()
     for link in links[1::2]:
         link.sendall(TOGGLES)
-        check("a link that stays", [200], statuses(link.recv(65_536)))
+        check("a link that stays", 200, reply_of(link)[0])
     for _ in range(50):
         soon(port, "beside slow links")
     ended.set()
@@ -82,15 +94,16 @@ def in_mid_reply(port):
     """Resets a connection while its replies are in transit. Only that connection ends."""
     with connect(port) as other:
         other.sendall(HEALTH)
-        check("another connection before a reset", [200], statuses(other.recv(65_536)))
+        check("another connection before a reset", 200, reply_of(other)[0])
         reset(port, TOGGLES * 900)
         other.sendall(HEALTH)
-        check("the same connection after the reset", [200], statuses(other.recv(65_536)))
+        check("the same connection after the reset", 200, reply_of(other)[0])
     soon(port, "after a reset")
 
 
 def main(words):
     port, process, workers = int(words[0]), started_by(int(words[1])), int(words[2])
+    control.start()
     for _ in range(5):
         at_once(port)
         in_mid_reply(port)
@@ -104,6 +117,9 @@ def main(words):
     after = memory_of(process)
     if after > before + SLACK:
         print(f"{after} KiB resident after all connections, and {before} before them")
+    if not control.is_alive():
+        print("the control failed")
+    control.stop()
 
 
 main(sys.argv[1:])
