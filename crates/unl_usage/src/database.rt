@@ -1,4 +1,4 @@
-//! What the durable upstream reports about its database file.
+//! What the durable upstream reports about its database file, on standard error. A failed write is ignored.
 use std::alloc::{AllocError, Global};
 use std::fmt::Display;
 use std::fs;

@@ -37,7 +37,7 @@ fn report<E: Eprint, D: Display + Drop>(rt: &E, line: D) {
 /// was given, since a value may be secret.
 ///
 /// # Errors
-/// Out of memory.
+/// `AllocError`: out of memory.
 pub fn refusal_text(
     alloc: Global,
     program: Program,
@@ -93,7 +93,7 @@ fn push_durable(
     if first.is_empty() || first.starts_with('-') {
         if first != "--help" && first != "-h" {
             text.push_str(
-                "unl_durable_upstream: the first argument is to be the path of the database\n",
+                "unl_durable_upstream: the first argument must be the path of the database\n",
             )?;
         }
     } else {
@@ -137,11 +137,11 @@ fn push_place(text: &mut String, program: Program, command: &str) -> Result<(), 
 fn push_option_fault(text: &mut String, option_fault: &OptionFault<'_>) -> Result<(), AllocError> {
     match *option_fault {
         OptionFault::Help => Ok(()),
-        OptionFault::NotAnOption(place) => writeln!(text, "argument {place} is no option"),
-        OptionFault::Unknown(name) => writeln!(text, "--{name} is no option of it"),
+        OptionFault::NotAnOption(place) => writeln!(text, "argument {place} is not an option"),
+        OptionFault::Unknown(name) => writeln!(text, "there is no option --{name}"),
         OptionFault::NoValue(option) => {
             let name = option.name;
-            write!(text, "--{name} has no value behind it; ")?;
+            write!(text, "--{name} has no value after it; ")?;
             text.push_str("one that begins with a hyphen is written --OPTION=VALUE\n")
         }
         OptionFault::Repeated(option) => {

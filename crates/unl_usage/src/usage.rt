@@ -44,7 +44,7 @@ pub(crate) fn push_usage(
         push_named(text, option)?;
     }
     for option in options {
-        push_option(text, option)?;
+        push_option_of(text, program, option)?;
     }
     text.push_str("\n")?;
     text.push_str(FILE_NOTE)
@@ -58,6 +58,19 @@ fn push_named(text: &mut String, option: &CommandOption) -> Result<(), AllocErro
     let name = option.name;
     let value = option.value;
     write!(text, " --{name} {value}")
+}
+
+/// Appends the line that describes an option. `--keep` is left out for `unl_durable_upstream`, where it has no effect:
+/// the commands are always kept in the database file.
+fn push_option_of(
+    text: &mut String,
+    program: Program,
+    option: &CommandOption,
+) -> Result<(), AllocError> {
+    match program {
+        Program::DurableUpstream if option.name == "keep" => Ok(()),
+        Program::Edge | Program::DurableUpstream => push_option(text, option),
+    }
 }
 
 /// Appends the line that describes an option.

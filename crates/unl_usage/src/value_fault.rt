@@ -21,8 +21,8 @@ pub(crate) enum ValueFault {
     /// The item at this position is refused even as the only item. Positions count from 1 and skip empty items.
     #[error("has a bad item {0}")]
     BadItem(usize),
-    /// Each item alone is accepted. There are too many items, or two items are equal, or are tokens of one environment,
-    /// where they must differ.
+    /// Each item alone is accepted, but there are too many, or two of them are alike: equal items, or tokens of the
+    /// same environment for an option that allows one token for each environment.
     #[error("has too many items, or two alike")]
     BadItems,
     /// It is a text that the option doesn't accept.

@@ -19,7 +19,7 @@ const NAMES: &str = "abcdefghij";
 const MOST: u64 = 2000;
 
 /// Puts the features in order, until a put is not acknowledged with the next version number. Returns the number of puts
-/// before that put, or of all if there is no such put.
+/// that were acknowledged before that.
 fn put_all<K: Keeper>(alloc: Global, up: &mut Upstream, keeper: &mut K) -> u64
     requires { (K.state keeper.old).opened ≡ true }
     ensures { (K.state keeper.new).opened ≡ true }
@@ -107,8 +107,8 @@ fn stops_at(alloc: Global, calls: u64, loses: bool) -> Option<(u64, u64, bool)> 
 }
 
 /// Runs with 0, 1, 2 and so on allowed disk calls, and returns the first number that a run does not use up. Returns
-/// `None` if the test fails, as when a reopened upstream has fewer commands than were acknowledged, or at least two
-/// more, or after the last run not all ten.
+/// `None` if the test fails: for example, if a reopened upstream has fewer commands than were acknowledged, or at least
+/// two more, or doesn't have all ten after the last run.
 fn calls_of_a_run(alloc: Global, loses: bool) -> Option<u64> {
     for calls in 0..MOST {
         let (done, found, stopped) = stops_at(alloc, calls, loses)?;

@@ -1,5 +1,5 @@
 //! Tests of an edge writer whose readers answer requests: in threads of their own while the writer publishes, and after
-//! a reader has learned the list of all installs that the writer published.
+//! a reader has learned the list of all installs (changes of the board) that the writer published.
 ghost use Rattle.std.specs.Prelude.{All, IfOk, IfSome};
 ghost use Rattle.unl_edge_state.specs.Reading.{HasBegun, continuation_of};
 ghost use Rattle.unl_publication.specs.Looking.{SameOrigin};
@@ -75,7 +75,8 @@ fn ask(alloc: Global, reader: &mut EdgeReader) -> Result<FrontAndStatus, Memory>
 /// and its environment's slot has no snapshot.
 const STATUSES: [u16; 2] = [403, 503];
 
-/// A job that publishes a token book 20 times. `good` says afterwards whether all succeeded and the front is 20.
+/// A job that publishes a token book 20 times. Afterwards `good` is whether all publications succeeded and the front is
+/// 20.
 struct Publishing<'a, 'w, W: Wait> {
     writer: &'a mut EdgeWriter<'w, W>,
     alloc: Global,
@@ -100,8 +101,8 @@ impl<W: Wait> Job for Publishing<'_, '_, W> {
     fn cancel(&mut self) {}
 }
 
-/// A job that sends 200 requests. `good` says afterwards whether each answer had the status of its front, and no front
-/// was below the one before it or above 20.
+/// A job that sends 200 requests to its reader. Afterwards `good` is whether each answer had the status of its front,
+/// and no front was above 20 or below that of the previous answer.
 #[derive(Drop)]
 struct Asking {
     reader: EdgeReader,
@@ -177,15 +178,15 @@ fn publish_concurrently<R: Threads + Wait>(
     }
 }
 
-/// Whether two reports of the writer that exist at the same time both contain its list of installs.
+/// Returns whether two reports of the writer that exist at the same time both contain its list of installs.
 fn reports_lists<W: Wait>(writer: &mut EdgeWriter<'_, W>) -> bool {
     let first = writer.tell();
     let second = writer.tell();
     first.has_list() && second.has_list()
 }
 
-/// Publishes while two readers answer. Returns whether `reports_lists` returned true before, and `publish_concurrently`
-/// did then.
+/// Publishes while two readers answer. Returns whether `reports_lists`, called first, and then `publish_concurrently`
+/// both returned true.
 fn readers_answer_while_it_publishes<R: Threads + Wait>(
     rt: &R,
     alloc: Global,
@@ -219,8 +220,8 @@ fn take_one<W: Wait>(
     readers.pop()
 }
 
-/// Publishes a token book. Then the writer makes three reports, but it has room for two lists only. Returns the front
-/// and the status of the answer that the reader gives after it has learned from the first report. Returns an error if
+/// Publishes a token book. Then the writer makes three reports, but it has room for two lists only. The reader learns
+/// from the first report. Returns the front and the status of the reader's next answer. Returns an error if
 /// `learn_all` succeeds with the third report, which has no list, or fails with the first one, or out of memory.
 fn learn_and_ask<W: Wait>(
     alloc: Global,

@@ -97,7 +97,7 @@ fn publish_and_tell<W: Wait>(
 }
 
 /// The first reader looks at the opening value, and again after each of two publications, which it learns of. Then
-/// three more numbers are published. The reader learns of the first and the third of them, and looks. At last it learns
+/// three more numbers are published. The reader learns of the first and the third of them, and looks. Finally it learns
 /// of the second, which is older than what it knows, and looks again. The other reader learns of nothing, and looks
 /// once, after the first publication. Returns what the two readers saw.
 fn look_and_learn<W: Wait>(
@@ -124,8 +124,8 @@ fn look_and_learn<W: Wait>(
     Ok(([zero, one, two, five, still], not_learned))
 }
 
-/// Creates a writer with room for this many readers. Returns whether it can report its list of publications at first,
-/// and what two readers see.
+/// Creates a writer with room for `seats` readers. Returns whether its first report has the list of publications, and
+/// what two readers see.
 fn seen_with_seats<W: Wait>(
     rt: &W,
     alloc: Global,
@@ -156,7 +156,8 @@ const LEARNED: [Look; 5] = [
     Some((5, 111)),
 ];
 
-/// A list is reported only if there is room for a third reader. Without the list a reader learns only the front.
+/// The writer reports its list of publications only if there is room for a third reader. From a report without the list
+/// a reader learns only the front.
 #[test]
 fn a_reader_learns_again_and_again(rt: HostRuntime) -> Result<(), Fail> {
     for seats in 2..5 {

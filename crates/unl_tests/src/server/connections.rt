@@ -20,7 +20,7 @@ fn desk(alloc: Global) -> Option<OneDesk> {
 }
 
 /// Serves a link over a board without tokens. Returns the number of requests answered and how the connection ended, or
-/// `None` out of memory.
+/// `None` if out of memory.
 fn serve(alloc: Global, link: &mut MemoryLink) -> Option<(usize, End)> {
     let mut desk = desk(alloc)?;
     let mut served = Served::new(alloc).ok()?;
@@ -48,7 +48,7 @@ fn has_outcome(alloc: Global, bytes: &[u8], most: usize, outcome: ConnectionCase
     fails_with(alloc, bytes, most, &[], outcome)
 }
 
-/// As `has_outcome`, for a link whose reads and writes with the numbers in `failing` fail.
+/// As `has_outcome`, but the link's reads and writes whose numbers are in `failing` fail (see `link_of`).
 fn fails_with(
     alloc: Global,
     bytes: &[u8],
@@ -144,7 +144,7 @@ fn a_link_whose_calls_fail(rt: HostRuntime) {
 const NO_ROUTE: &[u8] =
     b"HTTP/1.1 404 Not Found\r\nContent-Type: application/json\r\nContent-Length: 23\r\n\r\n{\"error\":\"NoSuchRoute\"}";
 
-/// The same reply, if the connection is closed after it.
+/// The reply to a request for `/no` if the server closes the connection after it.
 const NO_ROUTE_AND_CLOSE: &[u8] =
     b"HTTP/1.1 404 Not Found\r\nContent-Type: application/json\r\nContent-Length: 23\r\nConnection: close\r\n\r\n\
     {\"error\":\"NoSuchRoute\"}";
@@ -232,7 +232,7 @@ const REFUSED: [(&str, &str, u16); 10] = [
 ];
 
 /// Serves a connection on which a request with these header fields and the body `abcde` is received. Returns whether
-/// the request is refused with this status line and status, or `None` out of memory.
+/// the request is refused with this status line and status, or `None` if out of memory.
 fn is_refused(alloc: Global, fields: &str, line: &str, status: u16) -> Option<bool> {
     let request = format!(in alloc; "POST /no HTTP/1.1\r\nHost: x\r\n{fields}\r\n\r\nabcde").ok()?;
     let reply = format!(in alloc;

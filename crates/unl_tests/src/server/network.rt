@@ -178,11 +178,11 @@ fn exchange<P: Peer>(
 const DELTA: &[u8] =
     b"GET /api/client/delta?a=b HTTP/1.0\r\nHost: h\r\nAuthorization: *:dev.secret\r\n\r\n";
 
-/// The same request with another token.
+/// The request `DELTA` with another token.
 const OTHER_DELTA: &[u8] =
     b"GET /api/client/delta?a=b HTTP/1.0\r\nHost: h\r\nAuthorization: *:prod.secret\r\n\r\n";
 
-/// A request that asks which tokens are valid, for the token book.
+/// A request for the token book: it asks the server which tokens are valid.
 const BOOK: &[u8] = b"POST /edge/validate HTTP/1.0\r\nHost: h\r\n\r\n{}";
 
 /// A reply in two pieces. The status is in the first one; the second one only looks like a status line.
@@ -210,7 +210,7 @@ const REQUESTS: [&[u8]; 10] = [
     DELTA,
 ];
 
-/// The results of the reads after each of these requests.
+/// The results of the reads after each of `REQUESTS`, in the same order.
 const REPLIES: [&[Step]; 10] = [
     SUCCESS,
     FORBIDDEN,
@@ -224,7 +224,7 @@ const REPLIES: [&[Step]; 10] = [
     SUCCESS,
 ];
 
-/// The lines that the peer logs for these requests and replies, and for the three connects after them: two that are
+/// The lines that the peer logs for `REQUESTS` and `REPLIES`, and for the three connects after them: two that are
 /// refused and one that succeeds.
 const PEER_LINES: &str = "upstream 127.0.0.1:7: GET /api/client/delta: 403
 upstream 127.0.0.1:7: GET /api/client/delta: 200, but not taken

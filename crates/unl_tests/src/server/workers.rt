@@ -1,4 +1,5 @@
-//! A test of a pool whose workers run one after another, without threads: it serves as many links as its queue holds.
+//! A test of a pool whose workers run one after another, without threads: the pool serves 64 links, as many as its
+//! queue holds.
 ghost use Rattle.std.specs.Prelude.{◌≤◌};
 
 use std::alloc::Global;
@@ -171,7 +172,8 @@ fn links_counted(slots: &[WorkerSlot<Counting, ListDraws>]) -> u64 {
 }
 
 /// Serves the links of a door with two workers, which run one after another. Returns how accepting ended, the number of
-/// links that the workers counted, and the number of turns that the periodic task made. Returns `None` out of memory.
+/// links that the workers counted, and the number of turns that the periodic task made. Returns `None` if out of
+/// memory.
 fn serve<W: Threads + Wait + Sync>(rt: &W, alloc: Global) -> Option<(AcceptOutcome, u64, u64)> {
     let slots = vec![in alloc; slot(alloc), slot(alloc)].ok()?;
     let mut door = TestDoor {

@@ -3,7 +3,7 @@ use Rattle.crossbeam_queue.specs.Passes.{view}
 use Rattle.unl_workers.specs.Passes.{IsPassOfQueue}
 use Rattle.unl_tests.proofs.server.links.put_both.Given as goal
 
--- the pass is still one of the queue, and may put links
+-- the pass still belongs to the queue, and may put links
 abbrev pub invariant-loop-link : goal.invariant-loop-link
 invariant-loop-link g l = record {
   queue : IsPassOfQueue l.queue l.pass;

@@ -3,7 +3,7 @@ use Rattle.crossbeam_queue.specs.Passes.{view}
 use Rattle.unl_workers.specs.Passes.{IsPassOfQueue}
 use Rattle.unl_tests.proofs.server.links.take_both.Given as goal
 
--- the pass is still one of the queue, with the same right to put links
+-- the pass still belongs to the queue, and has the same right to put links
 abbrev pub invariant-loop : goal.invariant-loop
 invariant-loop g l = record {
   queue : IsPassOfQueue l.queue l.pass;
