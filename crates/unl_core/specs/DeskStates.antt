@@ -2,7 +2,7 @@
 -- environment), the place of each slot, and the number of publications. A place has the slot's version, if any, and whether the slot is
 -- held: a held slot missed a batch of events, and takes only a batch that begins with a hydration (an event that contains the whole state).
 use Rattle.std.specs.Prelude.{◌≡◌, ℕ, ◌+◌, List, [], ◌∷◌, ◌++◌, length, map, All, Bool, ◌&&◌, ◌||◌, not, nat_lt, if◌then◌else◌, is_some}
-use Rattle.std.specs.Prelude.{slice_get, slice_set, Option, option_and_then, Some, true, false}
+use Rattle.std.specs.Prelude.{slice_get, slice_set, Option, option_and_then, Some, None, true, false}
 use Rattle.unl_tokens.specs.declared.token.Token.{Token}
 use Rattle.unl_delta.specs.declared.batch.Batch.{Batch}
 use Rattle.unl_delta.specs.declared.version.EnvVersion.{EnvVersion}
@@ -34,9 +34,10 @@ place_at slot = record { version = slot.snapshot; held = false }
 abbrev pub snapshot_at : List Slot → ℕ → Option EnvVersion
 snapshot_at slots slot = option_and_then (λ s. s.snapshot) (slice_get slots slot)
 
--- The part of a desk that the `Installer` trait knows: places, number of publications and token book.
+-- The part of a desk that the `Installer` trait knows: places, number of publications and token book. Earlier publications are not
+-- observable.
 abbrev pub installed_by : DeskState → Installed
-installed_by s = record { places = s.places; front = s.front; book = s.board.book }
+installed_by s = record { places = s.places; front = s.front; book = s.board.book; publications = None }
 
 -- Whether the environment is new and the board has fewer than eight slots.
 abbrev pub is_added : List ℕ → List Slot → Bool

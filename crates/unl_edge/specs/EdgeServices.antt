@@ -35,7 +35,7 @@ pub record EdgeService : Type 0 where
 
 -- what is installed if no install has changed this board: the places of its slots and its book, at front 0
 abbrev pub opened : Board → Installed
-opened board = record { places = map place_at board.slots; front = 0; book = board.book }
+opened board = record { places = map place_at board.slots; front = 0; book = board.book; publications = Some [] }
 
 -- the board that an edge begins with: its boot number (a random number, drawn at each start), its host, an empty slot for each of the
 -- upstream's tokens, and an empty token book

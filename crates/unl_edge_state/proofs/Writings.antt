@@ -2,6 +2,7 @@
 use Rattle.std.proofs.Common.{◌≡◌, ℕ, ◌<◌, ◌+◌, List, [], ◌∷◌, ◌++◌, length, Bool, true, false, Some, None, Option, IfSome, Result, Ok, Err, OnOk, OnErr, is_some, refl, sym, ap, ◌∙◌, subst, length-append, get_or, map, All, unwrap_or}
 use Rattle.std.proofs.Math.ListN.{set}
 use Rattle.std.specs.Prelude.{option_map, slice_set}
+use Rattle.std.proofs.lemmas.List.{map-append}
 use Rattle.std.proofs.lemmas.Option.{slice_get-get_or}
 use Rattle.unl_core.specs.declared.board.Board.{Board}
 use Rattle.unl_core.specs.declared.board.Install.{Install}
@@ -14,11 +15,11 @@ use Rattle.unl_delta.specs.declared.batch.Verdict.TheVariants.{Apply}
 use Rattle.unl_delta.specs.declared.version.EnvVersion.{EnvVersion}
 use Rattle.unl_delta.specs.declared.version.Place.{Place}
 use Rattle.unl_delta.specs.Batch.{empty_place, next_version, verdict_of}
-use Rattle.unl_delta.specs.Installing.{after_install, place_of}
+use Rattle.unl_delta.specs.Installing.{after_install, place_of, with_book}
 use Rattle.unl_delta.specs.Valid.{IsValidPlace, IsValidVersion}
 use Rattle.unl_edge_state.specs.Editions.{BoardAt, board_known, no_board, opening_of}
 use Rattle.unl_edge_state.specs.Orderly.{KnowsOrderly}
-use Rattle.unl_edge_state.specs.Writing.{Writing, IsWriting, LeadsTo, Stays, writer_after_batch, writer_after_hold, installed_by, with_install, with_version}
+use Rattle.unl_edge_state.specs.Writing.{Writing, IsWriting, LeadsTo, Stays, writer_after_batch, writer_after_hold, installed_by, publication_of, with_install, with_version}
 use Rattle.unl_edge_state.proofs.Boards.{known_more, knows_more}
 use Rattle.unl_publication.specs.declared.knowledge.Knowledge.{Knowledge}
 use Rattle.unl_publication.specs.Rule.{knows_opening, with_installs}
@@ -99,15 +100,23 @@ batch_installed w new slot batch begun is =
     let v : EnvVersion = next_version (place_of (installed_by w) slot) batch in
     let front : length (w.known.installs ++ Env slot v ∷ []) ≡ length w.known.installs + 1 = length-append w.known.installs (Env slot v ∷ []) in
     let book : (board_known (with_installs (Env slot v ∷ []) w.known)).book ≡ (board_known w.known).book = ap (λ (b : Board). b.book) (known_more w.known (Env slot v) begun) in
-    ap installed_by is ∙ (λ i. record { places = slice_set w.places slot (record { version = Some v; held = false }); front = front i; book = book i })
+    let publications = map-append publication_of w.known.installs (Env slot v ∷ []) in
+    ap installed_by is
+    ∙ (λ i. record {
+      places = slice_set w.places slot (record { version = Some v; held = false });
+      front = front i;
+      book = book i;
+      publications = Some (publications i);
+    })
 
 -- If a writer published a token book, its state as an `Installer` has that book and a front that is larger by 1.
 pub book_installed : (w new : Writing) (tokens : List Token) → is_some w.known.opening ≡ true → new ≡ record (with_install (Tokens tokens) w) { closed = new.closed }
-    → installed_by new ≡ record { places = w.places; front = length w.known.installs + 1; book = tokens }
+    → installed_by new ≡ with_book tokens (installed_by w)
 book_installed w new tokens begun is =
     let front : length (w.known.installs ++ Tokens tokens ∷ []) ≡ length w.known.installs + 1 = length-append w.known.installs (Tokens tokens ∷ []) in
     let book : (board_known (with_installs (Tokens tokens ∷ []) w.known)).book ≡ tokens = ap (λ (b : Board). b.book) (known_more w.known (Tokens tokens) begun) in
-    ap installed_by is ∙ (λ i. record { places = w.places; front = front i; book = book i })
+    let publications = map-append publication_of w.known.installs (Tokens tokens ∷ []) in
+    ap installed_by is ∙ (λ i. record { places = w.places; front = front i; book = book i; publications = Some (publications i) })
 
 -- As `batch_installed`, for a call that may fail.
 pub batch_result_installed : {E : Type 0} (r : Result ℕ E) (w new : Writing) (slot : ℕ) (batch : Batch) → is_some w.known.opening ≡ true
@@ -152,6 +161,7 @@ places_led (Some o) list places represents = represents
 pub leads_to : (w : Writing) → IsWriting w.known w.places → LeadsTo w.known.opening w.known.installs (installed_by w)
 leads_to w h = record {
   front = refl;
+  publications = refl;
   book = book_led w.known.opening w.known.installs;
   places = places_led w.known.opening w.known.installs w.places h.represents;
 }

@@ -1,7 +1,7 @@
 -- What a writer of the board has published, and the places that it keeps. An install is one published change of the board. The place
 -- of a slot has the slot's version, if any, and whether the slot is held. Only a batch that begins with a hydration (an event that contains
 -- the whole state) applies to a held slot.
-use Rattle.std.specs.Prelude.{◌≡◌, ℕ, ◌<◌, [], ◌∷◌, List, length, Bool, true, ⊤, is_some, slice_set, Option, Some, false, IfSome}
+use Rattle.std.specs.Prelude.{◌≡◌, ℕ, ◌<◌, [], ◌∷◌, List, length, map, Bool, true, ⊤, is_some, slice_set, Option, Some, false, IfSome}
 use Rattle.unl_core.specs.declared.board.Install.{Install}
 use Rattle.unl_core.specs.declared.board.Install.TheVariants.{Tokens, Env}
 use Rattle.unl_core.specs.Board.{board_after}
@@ -10,7 +10,7 @@ use Rattle.unl_delta.specs.declared.batch.Batch.{Batch}
 use Rattle.unl_delta.specs.declared.version.EnvVersion.{EnvVersion}
 use Rattle.unl_delta.specs.declared.version.Place.{Place}
 use Rattle.unl_delta.specs.Batch.{next_version}
-use Rattle.unl_delta.specs.Installing.{Installed, place_of}
+use Rattle.unl_delta.specs.Installing.{Installed, Publication, PublishedBook, PublishedVersion, place_of}
 use Rattle.unl_edge_state.specs.Editions.{BoardAt, board_known}
 use Rattle.unl_publication.specs.declared.knowledge.Knowledge.{Knowledge}
 use Rattle.unl_publication.specs.Rule.{with_installs}
@@ -27,15 +27,27 @@ pub record IsWriting (known : Knowledge BoardAt Install) (places : List Place) :
   pub begun : is_some known.opening ≡ true
   pub represents : PlacesMatch (board_known known) places
 
--- The part of the writer's state that the trait `Installer` knows: the places, the number of publications, and the board's token book.
-abbrev pub installed_by : Writing → Installed
-installed_by w = record { places = w.places; front = length w.known.installs; book = (board_known w.known).book }
+-- The publication that an install is.
+abbrev pub publication_of : Install → Publication
+publication_of (Tokens book) = PublishedBook book
+publication_of (Env slot version) = PublishedVersion slot version
 
--- `installed` is the state after the opening board and these installs: its front is the number of the installs, and its book and the
--- version of each place are those of the board after them. The places and the slots of that board are valid. `edition` is the opening
--- board; if it is `None`, only the front is claimed.
+-- The part of the writer's state that the trait `Installer` knows: the places, the number of publications, the board's token book, and all
+-- publications.
+abbrev pub installed_by : Writing → Installed
+installed_by w = record {
+  places = w.places;
+  front = length w.known.installs;
+  book = (board_known w.known).book;
+  publications = Some (map publication_of w.known.installs);
+}
+
+-- `installed` is the state after the opening board and these installs: its front is the number of the installs, they are its publications,
+-- and its book and the version of each place are those of the board after them. The places and the slots of that board are valid. `edition`
+-- is the opening board; if it is `None`, only the front and the publications are claimed.
 pub record LeadsTo (edition : Option BoardAt) (installs : List Install) (installed : Installed) : Type 0 where
   pub front : installed.front ≡ length installs
+  pub publications : installed.publications ≡ Some (map publication_of installs)
   pub book : IfSome edition (λ opening. installed.book ≡ (board_after opening.board installs).book)
   pub places : IfSome edition (λ opening. PlacesMatch (board_after opening.board installs) installed.places)
 

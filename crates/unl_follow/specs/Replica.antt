@@ -25,9 +25,10 @@ pub record Kept : Type 0 where
 abbrev pub new_replica : Kept
 new_replica = record { place = empty_place; front = 0; book = [] }
 
--- the replica's state as that of an `Installer` (a place for each slot, a front and a book of tokens) with one slot, number 0
+-- the replica's state as that of an `Installer` (a place for each slot, a front and a book of tokens) with one slot, number 0; its
+-- earlier publications are not observable
 abbrev pub installed_by : Kept → Installed
-installed_by kept = record { places = kept.place ∷ []; front = kept.front; book = kept.book }
+installed_by kept = record { places = kept.place ∷ []; front = kept.front; book = kept.book; publications = None }
 
 -- the name of the feature that `follow` evaluates after each poll, and the context of the evaluation
 pub record Subject : Type 0 where
