@@ -1,4 +1,5 @@
--- Inlining segments: it changes nothing where no strategy refers to a segment, and keeps a state valid.
+-- Inlining segments: it changes nothing where no strategy refers to a segment, and keeps a state valid if no strategy then has more than
+-- 100 constraints.
 use Rattle.std.proofs.Common.{◌≡◌, ℕ, ◌≤◌, ◌++◌, Bool, true, false, cond, List, [], ◌∷◌, length, map, Option, Some, None, inl, inr, refl, ap, sym, ◌∙◌, arith}
 use Rattle.std.specs.Prelude.{All, flat_map, nat_lt, ◌==◌}
 use Rattle.std.specs.List.{find, list_all}

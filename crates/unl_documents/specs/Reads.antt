@@ -168,7 +168,7 @@ pub record ReadsState (value : Data) (s : State) : Type 0 where
   pub features : HasSorted name_key ReadsFeature key.Features value s.features
   pub segments : HasSorted id_key ReadsSegment key.Segments value s.segments
 
--- The value represents the `meta` object of a feed: an epoch, which is 0 if it is absent, and an optional number.
+-- The value represents the `meta` object of a feed: an epoch, which is 0 if it is absent or null, and an optional number.
 pub record ReadsMeta (value : Data) (m : Meta) : Type 0 where
   pub epoch : HasOr 0 IsWhole key.Epoch value m.epoch
   pub number : MayHave IsWhole key.RevisionId value m.number
