@@ -8,7 +8,7 @@ use Rattle.unl_base.specs.Memory.{IsNewLink, IsNextLink, IsStocked, IsThere, Sto
 abbrev seen : List (Option MemoryLinkState) → ℕ → ℕ → Stock
 seen links given back = record { links = map to_come (drop given links); out = given - back; returned = map sent_and_faults (take back links) }
 
--- `IsStocked` holds after the next link is handed out.
+-- `IsStocked` still holds after the next link is handed out.
 pub gone : (links : List (Option MemoryLinkState)) (given back : ℕ) (left : Option MemoryLinkState) → given < length links → IsStocked links given back
     → IsStocked (slice_set links given left) (given + 1) back
 gone links given back left more stocked = record {
@@ -18,7 +18,7 @@ gone links given back left more stocked = record {
   there = rw (take-set-le back links given left stocked.within) stocked.there;
 }
 
--- `IsStocked` holds after a link is taken back.
+-- `IsStocked` still holds after a link is taken back.
 pub came : (links : List (Option MemoryLinkState)) (given back : ℕ) (wire : MemoryLinkState) → back < given → given ≤ length links → IsStocked links given back
     → IsStocked (slice_set links back (Some wire)) given (back + 1)
 came links given back wire out held stocked = record {
