@@ -7,9 +7,9 @@ pub fn last_field_counts()
     ensures { LastFieldCounts }
 {}
 
-/// A property x has the value of the last pair with the key `properties[x]`. If there is no such pair, it has that of
-/// the last pair with the key x, provided that x is not empty, not the name of a field and not of the form
-/// `properties[y]` with a nonempty y. Otherwise it is absent.
+/// If x is not empty, the property x has the value of the last pair with the key `properties[x]`. If there is no such
+/// pair, it has that of the last pair with the key x, provided that x is not the name of a field and not of the form
+/// `properties[y]` with a nonempty y. Otherwise it is absent. There is no property with an empty name.
 pub fn last_property_counts()
     ensures { LastPropertyCounts }
 {}
