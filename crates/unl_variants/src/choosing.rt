@@ -54,7 +54,8 @@ fn chosen_place(group: &str, variants: &[Variant], context: &Context, random: u3
     place_reached(variants, target(group, variants, context, random, total))
 }
 
-/// Returns the number, from 1 to the sum of the weights, that decides the choice by weight.
+/// Returns the number, from 1 to the sum of the weights, that decides the choice by weight. `total` must be this sum,
+/// and not 0.
 #[tactic(auto, unfolding(crate::specs::Variant::target_of, crate::specs::Variant::id_of, unl_murmur::specs::Murmur3::normalized_of))]
 fn target(group: &str, variants: &[Variant], context: &Context, random: u32, total: u32) -> u32
     requires some { 0 < total }

@@ -1,4 +1,4 @@
-//! Overrides, which give a variant to certain contexts whatever its weight, unless all are 0.
+//! Overrides, which give a variant to certain contexts whatever its weight, unless all weights are 0.
 ghost use Rattle.std.specs.Prelude.{◌≡◌, position};
 ghost use Rattle.std.specs.List.{list_any};
 ghost use Rattle.unl_variants.specs.Variant.{is_among as among, is_meant as meant, is_overridden as overridden};

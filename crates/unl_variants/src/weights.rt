@@ -4,7 +4,7 @@ ghost use Rattle.unl_variants.specs.Variant.{AreWithinLimits, total_weight as to
 
 use unl_documents::Variant;
 
-/// Returns the sum of the weights.
+/// Returns the sum of the weights. There must be at most 100 variants, each with a weight of at most 1,000.
 pub(crate) fn total_weight(variants: &[Variant]) -> u32
     requires limits { AreWithinLimits variants.now }
     ensures { result ≡ total_weight_of variants.now }
@@ -17,7 +17,8 @@ pub(crate) fn total_weight(variants: &[Variant]) -> u32
 }
 
 /// Returns the index of the first variant for which the sum of the weights up to and including its own is at least
-/// `target`. Returns `None` if the sum of all weights is less than `target`.
+/// `target`. Returns `None` if the sum of all weights is less than `target`. `target` must not be 0, and the limits of
+/// [`total_weight`] apply.
 pub(crate) fn place_reached(variants: &[Variant], target: u32) -> Option<usize>
     requires limits { AreWithinLimits variants.now }
     requires some { 0 < target }
