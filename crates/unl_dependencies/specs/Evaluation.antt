@@ -52,7 +52,7 @@ random_of f mark moment = random_id (random_number f.name mark moment.word)
 unfoldable pub variant_in : List ℕ → List Variant → Fields → ℕ → Option Variant
 variant_in group variants context random = option_and_then (slice_get variants) (choice_of group variants context random)
 
--- The group of a strategy's variants: its parameter `groupId`, or else the feature's name.
+-- The group of a strategy's variants: its parameter `groupId`, or the feature's name if this parameter is absent or empty.
 abbrev pub group_of : Feature → Strategy → List ℕ
 group_of f s = parameter_or f.name (codes "groupId") s.parameters
 

@@ -85,8 +85,8 @@ impl Features for State {
     }
 }
 
-/// Returns the first feature with the given name, if there is one. The state is valid, so the feature is within its
-/// limits.
+/// Returns the first feature with the given name, if there is one. The state must be valid, so the feature is
+/// within its limits.
 pub(crate) fn valid_named<'a, F: Features>(features: &'a F, name: &str) -> Option<&'a F::Feature>
     requires valid { IsValidState (F.state features.now) }
     ensures value { option_map (λ f. F.document f.now) result ≡ feature_with name.now (F.state features.now).features }

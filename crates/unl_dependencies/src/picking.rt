@@ -123,7 +123,8 @@ pub fn variant_of<'a>(
 
 /// Returns the variant that is chosen among those of the strategy at the index `place`, from 0. Returns `None` if there
 /// is no such strategy or no variant is chosen. The group, which is hashed to choose by weight, is the strategy's
-/// parameter `groupId`, or else the feature's name. The feature must be within its limits. Does not allocate.
+/// parameter `groupId`, or the feature's name if this parameter is absent or empty. The feature must be within its
+/// limits. Does not allocate.
 #[tactic(auto, unfolding(crate::specs::Evaluation::strategy_variant))]
 pub fn strategy_variant<'a>(
     feature: &'a Feature,
