@@ -85,7 +85,7 @@ impl Features for State {
     }
 }
 
-/// Returns the first feature with the given name, if there is one. The state must be valid, so the feature is
+/// Returns the first feature with the given name, if there is one. The state must be valid; the feature is then
 /// within its limits.
 pub(crate) fn valid_named<'a, F: Features>(features: &'a F, name: &str) -> Option<&'a F::Feature>
     requires valid { IsValidState (F.state features.now) }
