@@ -32,7 +32,8 @@ valid_at events i e inside is h = subst IsValidEvent (sym is) (each_at IsValidEv
 left_at : (events : List Event) (i : ℕ) (e : Event) → i < length events → e ≡ get_or events i e → drop i events ≡ e ∷ drop (i + 1) events
 left_at events i e inside is = drop_more events i e inside ∙ ap (λ (first : Event). first ∷ drop (i + 1) events) (sym is)
 
--- One step of the loop of `fold_all`, which applies each event: the order is kept, and the remaining events still lead to `start`.
+-- One step of the loop of `fold_all`, which applies each event: the order is kept, and the remaining events still lead to `start`, the
+-- state after all events.
 pub step_more : (events : List Event) (start now after : State) (i : ℕ) (e : Event) → i < length events → e ≡ get_or events i e
     → Every IsValidEvent events → IsInOrder now → after ≡ step e now → fold_events (drop i events) now ≡ start
     → IsInOrder after × (fold_events (drop (i + 1) events) after ≡ start)
@@ -41,7 +42,7 @@ step_more events start now after i e inside is valid order goes so_far =
     rw goes (step_ordered e now (valid_at events i e inside is valid) order, sym (ap (λ es. fold_events es now) left) ∙ so_far)
 
 -- One step of the loop of `fold_later`, which applies the events with a number greater than `above`: the order is kept, and
--- the remaining ones of these events still lead to `start`.
+-- the remaining ones of these events still lead to `start`, the state after all of them.
 pub step_above_more : (above : ℕ) (events : List Event) (start now after : State) (i : ℕ) (e : Event) → i < length events
     → e ≡ get_or events i e → Every IsValidEvent events → IsInOrder now → after ≡ cond (nat_lt above (number_of e)) (step e now) now
     → fold_events (later number_of above (drop i events)) now ≡ start

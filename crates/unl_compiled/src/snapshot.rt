@@ -67,8 +67,8 @@ impl Snapshot {
     }
 
     /// The snapshot of the next version: the version of this snapshot after `batch`. `place` has the current version of
-    /// the environment, which must be the version of this snapshot, and whether only a hydration (a whole new state)
-    /// can apply. The batch must be valid and apply to the place (`Verdict::Apply`).
+    /// the environment, which must be the version of this snapshot, and says whether only a hydration (a whole new
+    /// state) can apply. The batch must be valid and apply to the place (`Verdict::Apply`).
     ///
     /// Compiled features and segments that no event of the batch names are shared with this snapshot. If the batch has
     /// a hydration, nothing is shared.

@@ -93,7 +93,7 @@ stops key k (chunk ∷ chunks) full h (suc i) (suc j) d le lt before = stops key
 
 -- ---- the chunk of a key
 
--- all items before the chunk come before the key, and all items after the chunk come after it
+-- all items before the chunk come before the key, and all items after the chunk come after the key
 pub record Around {T : Type 0} (key : T → List ℕ) (k : List ℕ) (chunks : List (List T)) (place : ℕ) : Type 0 where
   pub low : Every (λ y. cmp (key y) k ≡ Less) (joined (take place chunks))
   pub high : Every (λ y. cmp k (key y) ≡ Less) (joined (drop (suc place) chunks))

@@ -49,8 +49,8 @@ pub trait Installer {
     /// The verdict on the batch must be `Apply`, and the front must be below 2^64 - 1. The only error is out of memory.
     ///
     /// Clause `represents`: a line is the histories of one environment, one for each epoch. If the slot has no version
-    /// or one that is a revision of a line, and the batch was sent from that line, the new version is a revision of the
-    /// line too, and is not older.
+    /// or one that represents a line, and the batch was sent from that line, the new version represents the line too,
+    /// and is not older. [`verdict`](crate::verdict) explains lines.
     fn install(&mut self, alloc: Global, slot: usize, batch: &Batch) -> Result<u64, Memory>
         requires slot { slot < length (installed self.old).places }
         requires front { (installed self.old).front < 2 ^ 64 - 1 }

@@ -44,7 +44,7 @@ all_pass : {T : Type 0} (xs : List T) → filter (λ _. true) xs ≡ xs
 all_pass [] = refl
 all_pass (x ∷ xs) = ap (λ ys. x ∷ ys) (all_pass xs)
 
--- a reader of all projects sees the whole state
+-- if all projects are visible, so is the whole state
 pub all_seen : (state : State) → view_of (sees projects.All) state ≡ state
 all_seen state = ap (λ features. record { features = features; segments = state.segments }) (all_pass state.features)
 
