@@ -79,7 +79,8 @@ fn plain(reply: Reply) -> Answer
     }
 }
 
-/// The answer of a known route, whose methods are already checked. `/commands` is refused like an unknown path.
+/// The answer of a known route. Whether the route accepts the request's method is not checked here. `/commands` is
+/// refused like an unknown path.
 fn at_route(
     alloc: Global,
     board: &Board,
@@ -371,7 +372,7 @@ fn feed_state(alloc: Global, inlined: bool, ready: &Ready) -> Result<State, Inli
     }
 }
 
-/// The reply 200 with this tag and the feed of this state.
+/// The reply 200 with this tag and the feed of this state, which must be valid.
 fn feed_with(alloc: Global, ready: &Ready, tag: Text, state: &State) -> Result<Reply, Memory>
     requires { IsValidState state.now }
     ensures { IfOk result (λ r. r ≡ feed_with ready.now tag (Ok state.now)) }

@@ -29,8 +29,8 @@ pub fn record_report(alloc: Global, book: &mut MetricsBook, answer: Answer) -> R
     }
 }
 
-/// Adds the report, which is for `environment`, to the book. Does nothing if there is no report or no environment. On
-/// the errors `Full` (the book has no room) and `Memory` the book is unchanged.
+/// Adds the report, which must be valid and is for `environment`, to the book. Does nothing if there is no report or no
+/// environment. On the errors `Full` (the book has no room) and `Memory` the book is unchanged.
 fn sum_up(
     alloc: Global,
     book: &mut MetricsBook,

@@ -35,7 +35,7 @@ fn rows_of(
     Ok(found)
 }
 
-/// The JSON values of the rows in the longest prefix of `rows` that fits into one bulk report.
+/// The JSON values of the rows in the longest prefix of `rows` that fits into one bulk report. The rows must be valid.
 fn fitting_values(alloc: Global, rows: &[Shared<Row>]) -> Result<Vec<Value>, Memory>
     requires { All IsCounted rows.now }
     ensures values { IfOk result (λ values. map view values.items ≡ map counted_data (take (room_for rows.now) rows.now)) }
@@ -84,7 +84,7 @@ fn bulk_value(alloc: Global, values: Vec<Value>) -> Result<Value, Memory>
 }
 
 /// The bulk report of an environment, as a JSON value, and the number of keys in it, or `None` if the environment has
-/// no key.
+/// no key. The rows must be valid.
 pub(crate) fn bulk(
     alloc: Global,
     rows: &[Shared<Row>],

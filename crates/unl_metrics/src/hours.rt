@@ -82,7 +82,8 @@ fn day_after(days: u32) -> Date
     epoch.checked_add((days as i64).days()).unwrap()
 }
 
-/// The text of an hour (given in whole hours since 1970), `YYYY-MM-DDTHH:00:00Z`.
+/// The text of an hour (given in whole hours since 1970), `YYYY-MM-DDTHH:00:00Z`. The hour must be before the end of
+/// 9999.
 pub(crate) fn hour_text(alloc: Global, hour: u32) -> Result<Text, Memory>
     requires { hour < hours_of_years }
     ensures { IfOk result (λ t. t ≡ hour_text hour) }

@@ -70,7 +70,7 @@ impl Row {
         self.entry.variants.len() <= 100
     }
 
-    /// A row with this row's key and the sum of both rows' tallies.
+    /// A row with this row's key and the sum of both rows' tallies. This row must be valid.
     pub(crate) fn plus(&self, alloc: Global, other: &Row) -> Result<Row, Memory>
         requires { IsCounted self.now }
         ensures { IfOk result (λ row. row ≡ (self.now.0, tally_sum self.now.1 other.now.1)) }
@@ -96,7 +96,8 @@ fn sum(a: u64, b: u64) -> u64
     a.saturating_add(b)
 }
 
-/// The sum of two entries: the app, feature and hour of the first entry, and the sums of the counts.
+/// The sum of two entries: the app, feature and hour of the first entry, and the sums of the counts. The variants of
+/// the first entry must be in ascending order of names.
 #[tactic(auto, unfolding(crate::specs::Book::tally_sum))]
 fn entry_sum(alloc: Global, this: &MetricEntry, that: &MetricEntry) -> Result<MetricEntry, Memory>
     requires { T (is_sorted (slice_cmp nat_cmp) (map pair this.now.variants)) }
@@ -170,7 +171,7 @@ fn is_at(counts: &[VariantCount], place: usize, name: &str) -> bool
 }
 
 impl Row {
-    /// The row as an item of a bulk report, as a JSON value.
+    /// The row, which must be valid, as an item of a bulk report, as a JSON value.
     #[tactic(auto, unfolding(crate::specs::Bulk::counted_data))]
     pub(crate) fn write(&self, alloc: Global) -> Result<Value, Memory>
         requires { IsCounted self.now }

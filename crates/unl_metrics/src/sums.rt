@@ -59,8 +59,8 @@ fn add_row(rows: &mut Vec<Shared<Row>>, alloc: Global, row: Shared<Row>) -> Resu
     Ok(())
 }
 
-/// The sum of two lists of rows: tallies with the same key are added. The keys of the first list must be in
-/// ascending order.
+/// The sum of two lists of rows: tallies with the same key are added. The rows must be valid, and the keys of the first
+/// list must be in ascending order.
 pub(crate) fn sum_of(
     alloc: Global,
     rows: &[Shared<Row>],
@@ -78,8 +78,8 @@ pub(crate) fn sum_of(
     Ok(all)
 }
 
-/// The rows after the entries of a report are added for an environment. The keys of the rows must be in ascending
-/// order.
+/// The rows after the entries of a report are added for an environment. The rows and the entries must be valid, and the
+/// keys of the rows must be in ascending order.
 pub(crate) fn report_sum(
     alloc: Global,
     rows: &[Shared<Row>],

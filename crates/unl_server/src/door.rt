@@ -49,8 +49,9 @@ pub(crate) enum LinkOutcome {
     Closed,
 }
 
-/// Serves the links of a door, one after another, and gives each back to the door, until the door is closed. Returns
-/// how many links were served. If a link fails, or memory runs out while a link is served, only that link ends.
+/// Serves the links of a door, one after another, and gives each back to the door, until the door is closed. The door
+/// must be listening. Returns how many links were served. If a link fails, or memory runs out while a link is served,
+/// only that link ends.
 ///
 /// # Errors
 /// `Failed`: the door could not hand out a link. The door increments its fault count.
@@ -107,7 +108,7 @@ fn serve_next<S: Server, D: Door, R: Draws>(
     }
 }
 
-/// Serves a link and returns it to the door.
+/// Serves a link that the door has handed out, and returns it to the door.
 fn serve_and_return<S: Server, D: Door, R: Draws>(
     alloc: Global,
     server: &mut S,

@@ -50,7 +50,7 @@ pub(crate) fn receive<L: Link>(
 }
 
 /// Takes the next request from the reader. If it is incomplete, reads more bytes once, and returns `None` if the reader
-/// got some.
+/// got some. `room`, the read buffer, must not be empty.
 fn turn<L: Link>(
     alloc: Global,
     reader: &mut Reader,
