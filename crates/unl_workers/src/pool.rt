@@ -43,10 +43,10 @@ pub enum PoolFault {
     Memory,
 }
 
-/// Accepts the links of a door on this thread until the door is closed or fails. Concurrently, each in a thread of its
-/// own, one worker for each slot serves them, and `turn` makes its turns at `pace` until none remains or no more links
-/// are accepted. If the door fails, the links that it handed out before are served as well. May block. Without a slot
-/// no link is served, and the call never returns if the door hands out more than 64.
+/// Accepts the links of a door, which must be listening, on this thread until the door is closed or fails. Concurrently,
+/// each in a thread of its own, one worker for each slot serves them, and `turn` makes its turns at `pace` until none
+/// remains or no more links are accepted. If the door fails, the links that it handed out before are served as well.
+/// May block. Without a slot no link is served, and the call never returns if the door hands out more than 64.
 ///
 /// # Errors
 /// `Spawner` if a job couldn't be started, and `Memory` if memory for the queue or the jobs runs out. In both cases no
@@ -112,7 +112,8 @@ type Prepared<S, R, B> = Result<(AcceptOutcome, Vec<WorkerSlot<S, R>>, B), PoolF
 
 /// Runs an acceptor on this thread, and workers and another job concurrently, none of which has started yet. Returns
 /// the door, and with it the outcome of accepting, the slots of the workers (in the vector `room`) and the other job,
-/// or why the pool did not run.
+/// or why the pool did not run. `workers` must have capacity for one more job, and `room`, which must be empty, for all
+/// slots.
 fn run_prepared<'a, S, R, D: Door, P: Spawner, B: Job, W: Wait + Sync>(
     spawner: &mut P,
     queue: &LinkQueue<D::L>,

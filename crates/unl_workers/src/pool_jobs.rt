@@ -41,8 +41,8 @@ impl<'a, S: LinkHandler, R: Draws, L: Link + Drop, W: Wait, B: Job> Job
 }
 
 /// Creates a worker for each slot (a server, with a time and a random word for each request), each with a pass of its
-/// own that is split off from `pass`. The vector of workers has capacity for one more job. Also returns an empty vector
-/// with capacity for all slots.
+/// own that is split off from `pass`, which must have more parts than there are slots. The vector of workers has
+/// capacity for one more job. Also returns an empty vector with capacity for all slots.
 ///
 /// # Errors
 /// Out of memory.
@@ -103,6 +103,7 @@ fn new_worker<'a, S, R, L, W>(
 }
 
 /// Runs workers and another job concurrently, and `here` on this thread. Returns `here`, the workers and the other job.
+/// `workers` must have capacity for one more job.
 ///
 /// # Errors
 /// `NotStarted`: a job couldn't be started, and the spawner increments its fault count. `Memory`: out of memory. In
@@ -138,7 +139,7 @@ where
 }
 
 /// Returns the slots of the workers, in the vector `room`, and joins their passes to `pass`. Each worker has finished:
-/// it has taken the end marker of the queue.
+/// it has taken the end marker of the queue. `room` must be empty, with capacity for all slots.
 pub(crate) fn collect_slots<S: Drop, R: Drop, L: Drop, W, B: Drop>(
     queue: &LinkQueue<L>,
     pass: &mut QueuePass<L>,

@@ -17,8 +17,8 @@ use crossbeam_queue::{Pass, RuledArrayQueue};
 use std::alloc::Global;
 use std::sync::{Condvar, Mutex, Wait};
 
-/// The right of one thread to use a queue. In contracts it has a tally of the links that the thread put and took; at
-/// run time it is zero-sized.
+/// The right of one thread to use one queue, and no other. In contracts it has a tally of the links that the thread put
+/// and took; at run time it is zero-sized.
 ///
 /// The passes of a queue share 2^64 parts. The tally of a pass with all parts has all links that were put and taken.
 pub type QueuePass<L> = Pass<QueueEntry<L>, QueueTally<L>>;
@@ -62,8 +62,8 @@ impl<L: Drop> LinkQueue<L> {
         Ok((queue, pass))
     }
 
-    /// Splits one part off this pass, as a new pass for another thread. The new pass has put and taken nothing, and may
-    /// not put links.
+    /// Splits one part off this pass, which must have at least two, as a new pass for another thread. The new pass has
+    /// put and taken nothing, and may not put links.
     pub fn split_pass(&self, pass: &mut QueuePass<L>) -> QueuePass<L>
         requires queue { IsPassOfQueue self.now pass.old }
         requires parts { 1 < (view pass.old).parts }
@@ -84,7 +84,7 @@ impl<L: Drop> LinkQueue<L> {
         self.links.absorb::<Parts>(pass, other)
     }
 
-    /// Does nothing at run time. Proves: if the pass has all parts and the end marker was taken, the links that were
+    /// Does nothing at run time. The pass must have all parts. Proves: if the end marker was taken, the links that were
     /// put are the links that were taken, perhaps in another order.
     pub fn all_taken(&self, pass: &mut QueuePass<L>)
         requires queue { IsPassOfQueue self.now pass.old }
@@ -94,7 +94,7 @@ impl<L: Drop> LinkQueue<L> {
         self.links.learn_as::<AllTaken>(pass)
     }
 
-    /// Appends a link. Blocks while 64 links are queued.
+    /// Appends a link. The pass must be one that may put links. Blocks while 64 links are queued.
     pub fn put<W: Wait>(&self, rt: &W, pass: &mut QueuePass<L>, link: L)
         requires queue { IsPassOfQueue self.now pass.old }
         requires parts { 0 < (view pass.old).parts }
@@ -105,8 +105,8 @@ impl<L: Drop> LinkQueue<L> {
         self.push::<PutsEntry, W>(rt, pass, QueueEntry::Link(link), MOST_LINKS);
     }
 
-    /// Closes the queue: no more links come from now on. The threads that wait for a link are woken one after another.
-    /// Queued links are still taken.
+    /// Closes the queue: no more links come from now on. The pass must be one that may put links, and may put none
+    /// afterwards. The threads that wait for a link are woken one after another. Queued links are still taken.
     pub fn close<W: Wait>(&self, rt: &W, pass: &mut QueuePass<L>)
         requires queue { IsPassOfQueue self.now pass.old }
         requires parts { 0 < (view pass.old).parts }
