@@ -43,10 +43,11 @@ pub enum PoolFault {
     Memory,
 }
 
-/// Accepts the links of a door, which must be listening, on this thread until the door is closed or fails. Concurrently,
-/// each in a thread of its own, one worker for each slot serves them, and `turn` makes its turns at `pace` until none
-/// remains or no more links are accepted. If the door fails, the links that it handed out before are served as well.
-/// May block. Without a slot no link is served, and the call never returns if the door hands out more than 64.
+/// Accepts the links of a door on this thread until the door is closed or fails. The door must be listening.
+/// Concurrently, each in a thread of its own, one worker for each slot serves the links, and `turn` makes its turns at
+/// `pace` until none remains or no more links are accepted. If the door fails, the links that it handed out before are
+/// served as well. May block. Without a slot no link is served, and the call never returns if the door hands out more
+/// than 64.
 ///
 /// # Errors
 /// `Spawner` if a job couldn't be started, and `Memory` if memory for the queue or the jobs runs out. In both cases no
