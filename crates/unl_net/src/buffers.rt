@@ -74,8 +74,8 @@ impl ReceiveBuffer {
         self.bytes.extend_from_slice(bytes).unwrap();
     }
 
-    /// Measures the request at the start of the unread bytes. Only a very long head needs an allocation; if that fails,
-    /// the request counts as unfinished.
+    /// Measures the request at the start of the unread bytes. Only a head with more than 65 fields needs an allocation;
+    /// if that fails, the request counts as unfinished.
     fn first_frame(&self, alloc: Global) -> Frame
         ensures { result ≢ Frame.More → IsFrame (unread self.now) result }
     {

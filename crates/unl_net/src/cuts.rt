@@ -139,7 +139,8 @@ impl Display for Cuts {
     }
 }
 
-/// When a line of one kind was last logged. Such lines are logged once a minute at most.
+/// When a line of one kind was last logged. Such lines are logged once a minute at most, as long as the clock can be
+/// read.
 #[derive(Clone, Copy)]
 pub(crate) struct EachMinute {
     last: Option<Instant>,

@@ -257,8 +257,8 @@ fn is_finished<N: Net + Clock + Eprint + Wait + Copy + Drop>(
     if !reactor.needs_no_link(moment(net)) {
         return false;
     }
-    // A link may have given its connection back since the last look. Such a connection is taken now, so that it isn't
-    // missed.
+    // A link may have returned its connection since the door last took any back. Such a connection is taken back now,
+    // so that it isn't missed.
     take_back(net, reactor, reports);
     reactor.is_empty()
 }

@@ -271,7 +271,7 @@ impl<S: Read + Write + OpenStream + AsRawFd + Drop> Reactor<S> {
     }
 
     /// Places again the waiting connection with this key. If accepting failed for good and bytes are still to be sent,
-    /// marks it to be closed after its replies.
+    /// marks it to be closed after its replies, unless bytes of a further request were received.
     #[tactic(auto, using(crate::proofs::Accounting::same, crate::proofs::Accounting::placed))]
     fn place_key(&mut self, key: usize)
         ensures accounts { Accounts 0 (slab_len self.old.waiting + deque_len self.old.ready) self.old.ended

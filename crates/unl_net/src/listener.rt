@@ -102,7 +102,7 @@ impl Accepting {
         self.fault = Some(fault);
     }
 
-    /// Counts a connection that was accepted.
+    /// Counts a connection that was accepted. The bound must not have been reached before.
     fn count(&mut self)
         requires { nat_le self.old.bound self.old.accepted ≡ false }
         ensures { (self.new.bound ≡ self.old.bound) × (self.new.accepted ≡ self.old.accepted + 1) }
@@ -274,8 +274,8 @@ fn note_shortage<N: Net + Clock + Eprint + Wait + Copy + Drop>(
     }
 }
 
-/// Takes in the stream of a connection that was accepted. A stream that can't be set up is dropped: the connection
-/// counts as ended, but not towards the bound.
+/// Takes in the stream of a connection that was accepted before the bound was reached. A stream that can't be set up is
+/// dropped: the connection counts as ended, but not towards the bound.
 fn take_in<N: Net + Clock + Eprint + Wait + Copy + Drop>(
     alloc: Global,
     net: N,
@@ -294,7 +294,7 @@ fn take_in<N: Net + Clock + Eprint + Wait + Copy + Drop>(
     }
 }
 
-/// Takes in a connection that was accepted, and counts it towards the bound.
+/// Takes in a connection that was accepted, and counts it towards the bound, which must not have been reached before.
 #[tactic(auto, using(crate::proofs::Accounting::then_one))]
 fn take_in_counted<N: Net + Clock + Eprint + Wait + Copy + Drop>(
     net: N,

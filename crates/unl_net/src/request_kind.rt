@@ -64,7 +64,8 @@ pub(crate) struct RequestKind {
     text: [u8; MOST_LOGGED],
     len: usize,
     pub key: u64,
-    /// Whether the request is for a feed of flags: a GET whose path begins with `/api/client/`.
+    /// Whether the request is for a feed of flags or for a delta, which counts as a feed in the log: a GET whose path
+    /// begins with `/api/client/`.
     pub is_feed: bool,
     /// Whether the request has the tag of an earlier reply (`If-None-Match`).
     pub has_tag: bool,
