@@ -23,7 +23,7 @@ const CALL_TIMEOUT: u64 = 10;
 /// The size of one read, in bytes.
 pub(crate) const PIECE: usize = 4_096;
 
-/// A bound on each loop of reads: more pieces of that size than the longest request has.
+/// A bound on each loop of reads: more pieces of `PIECE` bytes than the longest request has.
 const MOST_PIECES: usize = 300;
 
 /// A connection, with the received bytes that no link has read yet, and the bytes that are still to be sent.

@@ -9,8 +9,8 @@ use std::alloc::{AllocError, Global};
 use std::fmt::Display;
 use std::rt::{Env, Files};
 
-/// Reads the arguments again, and prints the text of [`refusal_text`] on standard error. If the arguments can't be read,
-/// prints only why. Prints nothing if memory runs out.
+/// Reads the arguments again, and prints on standard error why the program refuses them, followed by its usage
+/// ([`refusal_text`]). If they can't be read, prints only why not. Prints nothing if memory runs out.
 pub fn report_refusal<R: Env + Files + AllocGlobal + Eprint>(rt: &R, program: Program) {
     match arguments(rt) {
         Ok(args) => {
