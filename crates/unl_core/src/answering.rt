@@ -137,8 +137,8 @@ fn bulk_report(alloc: Global, board: &Board, request: &Request) -> Result<Answer
     }
 }
 
-/// The answer to a report: 202 with the report, for the token's environment, or 400 `BadReport` if it wasn't readable. A
-/// report that was read must be valid.
+/// The answer to a report: 202 with the report, for the token's environment, or 400 `BadReport` if it wasn't readable.
+/// A report that was read must be valid.
 fn reported_by(
     alloc: Global,
     token: &Token,
