@@ -149,7 +149,7 @@ same_name plain.Memory = refl
 abbrev plain_from : ℕ → List (List ℕ) → UpstreamState → LinesOutcome UpstreamState
 plain_from k more up = take_from obeying k up more
 
--- what follows a line ends as it does without a keeper
+-- the lines after a line whose command is kept end as they do without a keeper
 abbrev KeepsSame : ℕ → List (List ℕ) → KeptLines → Type 0
 KeepsSame k more kept_lines = (next : KeptLines) → next.count ≡ kept_lines.count + 1 → (rest_from (k + 1) more next).ending ≡ (plain_from (k + 1) more next.up).ending
 

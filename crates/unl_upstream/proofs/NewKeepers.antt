@@ -15,7 +15,7 @@ use Rattle.unl_upstream.specs.declared.command.Command.{Command}
 use Rattle.unl_upstream.specs.declared.reopening.ReopenFault.{ReopenFault}
 use Rattle.unl_upstream.specs.declared.reopening.ReopenFault.TheVariants.{BadRow, NoRow, Fault, Memory}
 
--- an upstream in its opening state has taken no command
+-- an upstream in its initial state has taken no command
 pub is_new : (up : UpstreamState) (boot : ℕ) (secret : List ℕ) (environments : List (List ℕ)) (book : List Token) (epoch : ℕ)
     → up ≡ opening boot secret environments book epoch → IsNew up
 is_new up boot secret environments book epoch is = record { opens = (boot, secret, environments, book, epoch, is) }
@@ -27,7 +27,7 @@ none_applied : (start up : UpstreamState) (texts : List (List ℕ)) → length t
 none_applied start up [] none leads = sym (ap (λ (o : Option UpstreamState). unwrap_or o start) leads)
 none_applied start up (text ∷ texts) none leads = absurd (omega (arith, none))
 
--- an upstream reopened on a keeper without rows is in its opening state, and no command is kept
+-- an upstream reopened on a keeper without rows is in its initial state, and no command is kept
 pub opens_empty : (start : UpstreamState) (made : KeeperState) (reopened : ℕ) (opened : KeptState) → made.rows ≡ Some [] → ReopensUpstream (kept_state start made) reopened opened
     → kept_lines_of opened ≡ record { up = start; count = 0; commands = Some [] }
 opens_empty start made reopened opened empty opens =

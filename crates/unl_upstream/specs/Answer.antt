@@ -65,7 +65,7 @@ command_or_reply_with up q None = Reply (refusal 401 (codes "NoToken"))
 command_or_reply_with up q (Some token) =
     if bytes_eq token up.secret then command_or_reply_in (command_in q.body) else Reply (refusal 403 (codes "UnknownToken"))
 
--- what a request on the route of commands asks for: a command or a refusal; the request must be a POST
+-- what a request on the route of commands asks for: a command or a refusal; a request that is not a POST is refused
 abbrev pub command_or_reply_at : UpstreamState → Request → CommandOrReply
 command_or_reply_at up q = if is_post q.method then command_or_reply_with up q q.token else Reply (bad_method route.Commands)
 

@@ -38,7 +38,7 @@ Linked = LinkedBy LinkServed
 abbrev pub KeptLinking : Type 0
 KeptLinking = Linking KeptState
 
--- The door gave out this number of links, and all were given back to it. If the door's links are observable, each was served.
+-- The door handed out this number of links, and all were given back to it. If the door's links are observable, each was served.
 abbrev pub ServesKeptLinks : KeptLinking → KeptLinking → ℕ → Type 0
 ServesKeptLinks = HandsBack LinkServed
 

@@ -142,7 +142,7 @@ pub record IsNext (v : EnvVersion) (event : Event) : Type 0 where
 abbrev pub place_with : EnvVersion → Place
 place_with v = record { version = Some v; held = false }
 
--- the batch of one event, for a client at this version
+-- the batch of one event that follows this version
 abbrev pub batch_of : EnvVersion → Event → Batch
 batch_of v event = record { epoch = v.epoch; after = Some v.number; events = event ∷ [] }
 
