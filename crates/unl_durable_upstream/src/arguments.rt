@@ -36,8 +36,8 @@ impl ProgramArguments {
 }
 
 /// Reads the path of the database file and the options of `upstream` from the arguments: those of the command line,
-/// then the non-empty lines of the file that the environment variable `UNL_EDGE_WORDS_FILE` names, if it is set.
-/// [`read_words`] describes the options.
+/// then the non-empty lines of the file that the environment variable `UNL_EDGE_WORDS_FILE` names, if it is set and not
+/// empty. [`read_words`] describes the options.
 ///
 /// # Errors
 /// `BadArguments`: there are no arguments; an argument, or the path or content of the file of arguments, isn't UTF-8;

@@ -24,7 +24,7 @@ pub enum ProgramFault {
     /// The keeper failed while the upstream was reopened, and incremented its fault count.
     #[error("unl_durable_upstream: the keeper failed")]
     Keeper,
-    /// The door could not listen on the port or accept a link, and incremented its fault count.
+    /// The door could not listen on the port or hand out a link, and incremented its fault count.
     #[error("unl_durable_upstream: the door failed")]
     Door,
     /// Out of memory.
