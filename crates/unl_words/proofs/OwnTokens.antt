@@ -137,7 +137,7 @@ other_texts (token ∷ tokens) differ =
     let parts = others_differ token.text (map (λ (t : Token). t.text) tokens) differ in
     AllPairs-cons (λ (a b : Token). a.text ≢ b.text) token tokens (none_has token tokens parts.0) (other_texts tokens parts.1)
 
--- The response for both lists can be read.
+-- The JSON value that lists the tokens of both lists can be read.
 Reads : List (List ℕ) → List (List ℕ) → Type 0
 Reads clients frontends = (tokens : List Token) × (book_of (own_answer clients frontends) ≡ Ok tokens)
 
@@ -157,7 +157,7 @@ reads clients frontends are also fit =
     let few : ltb 1024 (length all.tokens) ≡ false = le-ltb _ _ (omega (arith, counted, below)) in
     (all.tokens, rw (all.read, gathered_same all.tokens (other_texts all.tokens differ), few) refl)
 
--- The response for both lists is read completely, and results in their book.
+-- The JSON value that lists the tokens of both lists can be read, and the result is their book.
 pub own_book_read : (clients frontends : List (List ℕ)) → are_own_tokens clients ≡ true → are_own_tokens frontends ≡ true → fit_one_book clients frontends ≡ true
     → book_of (own_answer clients frontends) ≡ Ok (own_book clients frontends)
 unfolding own_book Reads

@@ -24,19 +24,19 @@ are_apart texts others = list_all (λ text. not (is_one_of text others)) texts
 
 -- ---- tokens
 
--- The text was read as a token whose environment and projects are names. If the text has `[]` in place of a project, so that only the
--- token server knows the projects, `may_be_open` must be true.
+-- The text was read as a token whose environment and projects are names. If the text has `[]` in place of a project, so that it does not
+-- name the token's projects, `may_be_open` must be true.
 abbrev pub is_named : Bool → Result Scope BadToken → Bool
 is_named may_be_open (Ok scope) = is_name scope.environment && (are_names scope.projects && (may_be_open || not scope.listed))
 is_named may_be_open (Err e) = false
 
--- The text is a token: it has at most 512 bytes, none of which is a carriage return, line feed or NUL, and its environment and
--- projects are names. If it has `[]` in place of a project, so that only the token server knows its projects, `may_be_open` must be
--- true.
+-- The text is a token: it has at most 512 bytes, none of which is a carriage return, line feed or NUL, and it can be read as a token whose
+-- environment and projects are names. If it has `[]` in place of a project, so that it does not name the token's projects,
+-- `may_be_open` must be true.
 abbrev pub is_token : Bool → Text → Bool
 is_token may_be_open text = nat_le (length text) 512 && (is_line text && is_named may_be_open (scope_of text))
 
--- The text, if it is a token. Its projects may be known only to the token server.
+-- The text, if it is a token. It may have `[]` in place of a project.
 abbrev pub token_of : Text → Value Text
 token_of text = passed (is_token true text) text
 

@@ -8,7 +8,7 @@ use Rattle.unl_tokens.specs.declared.fault.BadBook.{BadBook}
 use Rattle.unl_tokens.specs.declared.token.Token.{Token}
 use Rattle.unl_tokens.specs.Books.{book_of}
 
--- The entry for a token in the response of a token server: its text and its kind. The projects are those that the text names.
+-- The JSON entry of a token: its text and its kind. It has no list of projects, so the projects are those that the text names.
 unfoldable pub own_entry : List ℕ → List ℕ → Data
 own_entry kind text = object (
     with field.Token (string text) (
@@ -19,7 +19,7 @@ own_entry kind text = object (
 abbrev pub own_entries : List (List ℕ) → List (List ℕ) → List Data
 own_entries clients frontends = map (own_entry (codes "client")) clients ++ map (own_entry (codes "frontend")) frontends
 
--- The response of a token server that knows these tokens.
+-- The JSON value that lists these tokens, in the form that `book_of` reads.
 unfoldable pub own_answer : List (List ℕ) → List (List ℕ) → Data
 own_answer clients frontends = object (
     with field.Tokens (array (items_of (own_entries clients frontends)))
@@ -30,7 +30,7 @@ abbrev pub tokens_read : Result (List Token) BadBook → List Token
 tokens_read (Ok tokens) = tokens
 tokens_read (Err fault) = []
 
--- The token book (the list of known tokens) for both lists, read from that response. It is empty if reading fails, which can't happen if
+-- The token book (the list of known tokens) for both lists, read from that JSON value. It is empty if reading fails, which can't happen if
 -- the arguments are in their ranges.
 unfoldable pub own_book : List (List ℕ) → List (List ℕ) → List Token
 own_book clients frontends = tokens_read (book_of (own_answer clients frontends))

@@ -68,7 +68,7 @@ asks_check rows = do
   word ← number_or 0 0 last_number (first_of (codes "word") rows)
   Ok (Check now word)
 
--- The command `check`, which runs a test file of the Unleash client specification.
+-- The command `check`, which runs the tests of test files in the format of the Unleash client specification.
 abbrev pub check : CommandDefinition
 check = record { app = check_app; asks = asks_check }
 
@@ -200,7 +200,7 @@ asks_load rows = do
   count ← required (number_within 1 1000000) (first_of (codes "count") rows)
   Ok (Load seed count)
 
--- The command `load`, which evaluates features of a large generated input.
+-- The command `load`, which generates features and users, and evaluates the features for the users.
 abbrev pub load : CommandDefinition
 load = record { app = load_app; asks = asks_load }
 

@@ -13,9 +13,9 @@ use unl_documents::{Field, List, Memory, Text};
 use unl_tokens::{BadBook, Book};
 
 /// Builds the token book (the list of known tokens) from the client and frontend tokens in the arguments of `upstream`.
-/// Each token has the projects that its text names. The book is read from the response that a token server would give
-/// for these texts. It is empty if the response can't be read, which happens only for texts that the arguments don't
-/// allow.
+/// Each token has the projects that its text names. [`Book::read_value`] reads the book from a JSON value that lists
+/// the texts with their kinds. The book is empty if this value can't be read, which happens only for texts that the
+/// arguments don't allow.
 ///
 /// # Errors
 /// The only error is out of memory.
@@ -23,7 +23,7 @@ use unl_tokens::{BadBook, Book};
 pub fn own_book(alloc: Global, clients: &List<Text>, frontends: &List<Text>) -> Result<Book, Memory>
     ensures book { IfOk result (λ book. book ≡ own_book clients.now frontends.now) }
 
-    // If the arguments are in their ranges, the response can be read, and the book is what is read from it.
+    // If the arguments are in their ranges, the JSON value can be read, and the book is what is read from it.
     ensures whole { are_own_tokens clients.now ≡ true → are_own_tokens frontends.now ≡ true → fit_one_book clients.now frontends.now ≡ true
         → book_of (own_answer clients.now frontends.now) ≡ Ok (own_book clients.now frontends.now) }
 {
@@ -31,7 +31,7 @@ pub fn own_book(alloc: Global, clients: &List<Text>, frontends: &List<Text>) -> 
     read_answer(alloc, &answer)
 }
 
-/// Reads the book of a token server's response. It is empty if the response can't be read.
+/// Reads the book from a JSON value that lists tokens. The book is empty if the value can't be read.
 fn read_answer(alloc: Global, answer: &Value) -> Result<Book, Memory>
     ensures { IfOk result (λ book. book ≡ tokens_read (book_of (view answer.now))) }
 {
@@ -42,7 +42,7 @@ fn read_answer(alloc: Global, answer: &Value) -> Result<Book, Memory>
     }
 }
 
-/// Returns the response of a token server that knows these tokens.
+/// Returns a JSON value that lists these tokens, in the form that [`Book::read_value`] reads.
 #[tactic(auto, unfolding(crate::specs::OwnBook::own_answer))]
 fn own_answer(alloc: Global, clients: &[Text], frontends: &[Text]) -> Result<Value, Memory>
     ensures { IfOk result (λ value. view value ≡ own_answer clients.now frontends.now) }
@@ -66,7 +66,8 @@ fn entries_of(alloc: Global, kind: &str, texts: &[Text]) -> Result<Vec<Value>, M
     Ok(entries)
 }
 
-/// Returns the entry, in a token server's response, for a token with this text and kind.
+/// Returns the JSON entry of a token with this text and kind. It has no list of projects, so the token has the projects
+/// that its text names.
 #[tactic(auto, unfolding(crate::specs::OwnBook::own_entry))]
 fn own_entry(alloc: Global, kind: &str, text: &Text) -> Result<Value, Memory>
     ensures { IfOk result (λ value. view value ≡ own_entry kind.now text.now) }

@@ -53,9 +53,9 @@ pub(crate) fn all_tokens(alloc: Global, texts: &[Text], may_be_open: bool) -> Re
     Ok(true)
 }
 
-/// Whether a text is a token: it has at most 512 bytes, none of which is a carriage return, line feed or NUL, and its
-/// environment and projects are names. A token with `[]` in place of a project, whose projects only the token server
-/// knows, is accepted only if `may_be_open` is true.
+/// Whether a text is a token: it has at most 512 bytes, none of which is a carriage return, line feed or NUL,
+/// `Scope::read` can parse it, and its environment and projects are names. A text with `[]` in place of a project
+/// doesn't name the token's projects, and is accepted only if `may_be_open` is true.
 pub(crate) fn is_token(alloc: Global, text: &str, may_be_open: bool) -> Result<bool, Memory>
     ensures { IfOk result (λ is. is ≡ is_token may_be_open text.now) }
 {

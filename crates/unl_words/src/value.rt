@@ -1,5 +1,6 @@
-//! Reads option values that are not numbers or lists: addresses, secrets, tokens, names, texts of one line, modes and a
-//! context. Any other value is refused (`Bad`), and where no default is stated, an absent option is refused too.
+//! Reads option values that are neither numbers nor lists: addresses, secrets, tokens, names, texts of one line, modes
+//! and a context. Each reading function says which values it accepts, and returns `Bad` for any other value. It returns
+//! `Bad` for an absent option too, unless it states a default.
 ghost use Rattle.std.specs.Prelude.{◌≡◌, ◌<◌, true, Ok, IfOk, option_copied, option_map};
 ghost use Rattle.std.specs.List.{list_all};
 ghost use Rattle.std.specs.Path.{rsplit_once};

@@ -7,7 +7,7 @@ use unl_documents::{List, Text};
 pub enum Words {
     /// Reads lines of input, and prints for each line how an edge responds to it.
     Replay,
-    /// Reads a test file in the format of the Unleash client specification, and runs its tests.
+    /// Reads test files in the format of the Unleash client specification, and runs their tests.
     Check {
         /// The time of the evaluations, in milliseconds since 1970: at most 100,000,000,000,000.
         now: u64,
@@ -22,9 +22,9 @@ pub enum Words {
     Follow(FollowArguments),
     /// Reads features, a feature's name and a context from the input, and prints why that feature is on or off.
     Explain,
-    /// Evaluates features of a large generated input.
+    /// Generates features and users, and evaluates the features for the users.
     Load {
-        /// The seed from which the input is generated.
+        /// The seed from which the features and the users are generated.
         seed: u64,
         /// The number of evaluations: 1 to 1,000,000.
         count: u64,
