@@ -1,4 +1,4 @@
--- The next line of the input, and the effect of a turn.
+-- The effect of a turn of the loop over the lines, by what was read of the next line.
 use Rattle.std.proofs.Common.{◌≡◌, ◌≢◌, ℕ, ◌+◌, ◌<◌, ◌≤◌, List, [], ◌∷◌, ◌++◌, length, false, arith, Ok, Err, Option, refl, sym, ap, subst, ◌∙◌, append-nil}
 use Rattle.std.specs.Prelude.{codes}
 use Rattle.unl_base.specs.Streams.{Sends}
@@ -12,7 +12,7 @@ use Rattle.unl_input.specs.Turns.{LinesScene, ConsumesBytes, Prints, PrintsCause
 use Rattle.unl_input.proofs.Lines.{line_first, last_line, long_first, some_first, sends_nothing}
 use Rattle.unl_input.proofs.Whole.{Heads, Sofar, ends_at, errs, within_limits, past_limit, past_last}
 
--- if the result of a line is a refusal, printing its cause is printing the result of the line
+-- if a line is refused for this cause, and `PrintsCause` holds for what was sent, `Prints` holds for it too
 pub prints_cause : {D : Type 0} (fault : LinesFault) (k : ℕ) (cause : List ℕ) (comes : LineResult D) (desk : D) (old new : Option (List ℕ))
     → comes ≡ Err cause → PrintsCause fault k cause old new → Prints (Err fault) k comes desk old new
 prints_cause {D = D} fault k cause comes desk old new is refuses =
@@ -45,7 +45,7 @@ unfolding Heads
 heads_last taking k d line after few is some end = λ rest may.
     (line, [], ap (λ r. lines (line ++ r)) (may end) ∙ ap lines (append-nil line) ∙ last_line line is.unbroken some, within_limits taking k d line few is.short)
 
--- the last line was consumed
+-- the last line, which has no line feed, was consumed, and the input has ended
 abbrev pub TakesLast : {D : Type 0} → List ℕ → LinesScene D → LinesScene D → Type 0
 TakesLast line before after = IsTextLine line × (line ≢ []) × ConsumesBytes before line after × IsAtEnd after.held after.left
 
@@ -70,7 +70,7 @@ last_answered {D = D} taking k before after line u few next prints = record {
   sent = prints.2;
 }
 
--- ---- no line
+-- ---- no line is left
 
 pub none_left : {D : Type 0} (taking : Taking D) (k : ℕ) (before after : LinesScene D) → ConsumesBytes before [] after × IsAtEnd after.held after.left
     → before.desk ≡ after.desk → before.sent ≡ after.sent → ReachesEnd taking k before after
@@ -114,7 +114,7 @@ past_errs taking fault k before after b past got refuses =
     (prints_cause fault k (codes "TooManyLines") (Err (codes "TooManyLines")) after.desk before.sent after.sent refl refuses) got
     (heads_past taking k before.desk b after past)
 
--- a read failed before a line was begun
+-- a read failed, and no byte was consumed
 pub stops : {D : Type 0} (before after : LinesScene D) → ConsumesBytes before [] after × (after.held ≡ []) → after.sent ≡ before.sent → StopsReading before after
 stops before after broken same = record {
   begun = record { prefix = []; unbroken = refl; got = broken.0 };
@@ -127,7 +127,7 @@ pub runs_out : {D : Type 0} (before after : LinesScene D) → BeginsLine before.
     → RunsOutAtLine before after
 runs_out before after begun same = record { out = begun.prefix; got = begun.got; sent = same }
 
--- the effect of processing all lines, if one more byte begins line 1,000,001, which is past the limit
+-- the effect of processing all lines, if a byte follows line 1,000,000, the last allowed one: line 1,000,001 is refused
 pub ends_past : {D : Type 0} (taking : Taking D) (first : D) (fault : LinesFault) (start sent : Option (List ℕ)) (k : ℕ) (before after : LinesScene D) (b : ℕ)
     → k ≡ 1000001 → Sofar taking first start sent k before → ConsumesBytes before (b ∷ []) after
     → PrintsCause fault 1000001 (codes "TooManyLines") before.sent after.sent

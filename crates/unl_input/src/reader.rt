@@ -176,9 +176,10 @@ impl LineReader {
         self.from += count;
     }
 
-    /// Moves bytes of the line from the buffer to the end of `line`. Returns whether the line feed was found, which is
-    /// then consumed too. `line` grows to at most one byte more than a line may have, which is enough to see that the
-    /// line is too long. If memory runs out, the buffer is unchanged.
+    /// Moves the next bytes of a line from the buffer to the end of `line`, which has the line's earlier bytes. Returns
+    /// true if the line feed was reached: it is removed from the buffer too, and `line` is the whole line. Returns
+    /// false otherwise: then the buffer is empty, or `line` has one byte more than a line may have, which shows that
+    /// the line is too long. If memory runs out, the buffer is unchanged.
     fn take_piece(&mut self, line: &mut Vec<u8>) -> Result<bool, AllocError>
         requires held { 0 < length self.old }
         requires short { length line.old.items ≤ longest_line }
