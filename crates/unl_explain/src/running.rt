@@ -37,7 +37,7 @@ pub enum ExplainFault {
     Memory,
 }
 
-/// Reads a question from the source (why is a feature on or off?) and writes the explanation to the sink.
+/// Reads a question (why is a feature on or off?) from the source and writes the explanation to the sink.
 ///
 /// Reads the source to its end, unless the input is too large. The input is one JSON object with a state, the name of a
 /// feature, and the context, the time (in milliseconds since 1970) and the random word for the evaluation. Writes one
