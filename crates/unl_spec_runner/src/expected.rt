@@ -24,19 +24,19 @@ pub enum Expected {
 /// An expected or actual variant.
 #[derive(Debug, Drop)]
 pub struct ExpectedVariant {
-    /// The variant's name. If an evaluation has no variant, the actual name is `disabled`.
+    /// The variant's name. It is `disabled` in the actual result of an evaluation without a variant.
     pub name: Text,
-    /// Whether there is a variant.
+    /// Whether there is a variant, or is expected to be one.
     pub enabled: bool,
     /// The variant's payload, if it has one.
     pub payload: Option<Payload>,
-    /// Whether the feature is on, or `None` if the test does not compare that.
+    /// Whether the feature is on, or is expected to be. `None` if the test does not compare that.
     pub feature_enabled: Option<bool>,
 }
 
 impl Expected {
-    /// Converts an evaluation to the actual result, in the form of this expected result: whether the feature is on, or
-    /// its variant. The only error is out of memory.
+    /// Returns the actual result of an evaluation, in the form of the expected result `self`: whether the feature is
+    /// on, or the feature's variant. The only error is out of memory.
     #[tactic(auto, unfolding(crate::specs::Expected::given_as))]
     pub fn given_as(&self, alloc: Global, evaluation: &Evaluation) -> Result<Expected, Memory>
         ensures { IfOk result (λ given. given ≡ given_as self.now evaluation.now) }
@@ -49,7 +49,7 @@ impl Expected {
         }
     }
 
-    /// Whether the actual result `given` equals the expected one.
+    /// Whether the actual result `given` equals the expected result `self`.
     #[tactic(auto, unfolding(crate::specs::Expected::agrees))]
     pub fn agrees(&self, given: &Expected) -> bool
         ensures { result ≡ agrees self.now given.now }
@@ -81,8 +81,8 @@ impl Expected {
 }
 
 impl ExpectedVariant {
-    /// Converts an evaluation to the actual variant, for a test that expects this one. Its `feature_enabled` is `None`
-    /// if that of the expected variant is.
+    /// Returns the actual variant of an evaluation, for a test that expects the variant `self`. The actual
+    /// `feature_enabled` is `None` if that of `self` is, so that the test does not compare it.
     #[tactic(auto, unfolding(crate::specs::Expected::variant_given))]
     fn given(&self, alloc: Global, evaluation: &Evaluation) -> Result<ExpectedVariant, Memory>
         ensures { IfOk result (λ given. given ≡ variant_given self.now evaluation.now) }
@@ -123,7 +123,7 @@ impl ExpectedVariant {
     }
 }
 
-/// Returns the actual value, or `None` if the test does not compare it.
+/// Returns the actual value `given`, or `None` if the expected value `compared` is `None`: it is then not compared.
 fn in_place_of(compared: &Option<bool>, given: bool) -> Option<bool>
     ensures { result ≡ option_map (λ _. given) compared.now }
 {
