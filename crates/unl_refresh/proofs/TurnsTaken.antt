@@ -179,7 +179,7 @@ metrics_sent parameters environment host token installed tags before after peer 
 
 -- ---- a slot
 
--- a slot was refreshed, and then its metrics were sent
+-- a slot was refreshed, and then the metrics of its environment were sent, or memory ran out
 pub slot_polled : (result : Result Unit Memory) (slot : ℕ) (parameters now : SlotParameters) (tag : Option (List ℕ))
     (before middle after : PollState) → TakesSlot slot parameters tag before middle
     → ByResult result (SendsMetrics now) (StopsSending now) middle after → now ≡ parameters → tag_at before.tags slot ≡ tag
@@ -293,7 +293,7 @@ Turns result duty before peer after =
     ByResult result (MakesTurn duty.known duty.upstream duty.slot_pollers) (StopsInTurn duty.known duty.upstream duty.slot_pollers)
     (poll_state before duty.tags duty.metrics peer) after
 
--- the book was asked for, and then the slots were polled
+-- the book was asked for, and then the slots were polled, or memory ran out at one of them
 pub turn_made : (result : Result Unit Memory) (known : List (List ℕ)) (upstream : List ℕ) (book : Book) (lent items : List SlotPoller) (duty : Duty)
     (before : Installed) (peer : PeerView) (middle after : PollState) → lent ≡ items → duty_of known upstream book items ≡ duty
     → TakesBook known upstream (poll_state before (map tag_of lent) book peer) middle
