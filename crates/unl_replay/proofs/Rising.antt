@@ -96,7 +96,7 @@ verdict_rises e slot batch d Repeat agrees is = not_below_itself (snapshot_in e 
 verdict_rises e slot batch d Old agrees is = not_below_itself (snapshot_in e d.board.slots)
 verdict_rises e slot batch d Held agrees is = not_below_itself (snapshot_in e d.board.slots)
 
--- any change that a line may make leaves no version older
+-- no change that a line may make makes a version older
 pub leads_up : (d : DeskState) → Agrees d → Leads d (λ delivery. Unit {0}) (Rises d)
 leads_up d agrees = record {
   same = (agrees, λ e. not_below_itself (snapshot_in e d.board.slots));

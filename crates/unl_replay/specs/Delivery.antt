@@ -31,7 +31,7 @@ pub record Delivery : Type 0 where
 abbrev pub for_environment : List ℕ → LineReading Batch → LineReading Delivery
 for_environment environment reading = and_then reading (λ batch. Ok (record { environment = environment; batch = batch }))
 
--- the delivery of a line with a batch; a batch without the key `after` follows the current version number of its environment
+-- the delivery of a line with a batch; a batch without the key `after` is read as if `after` were the number of the environment's version
 abbrev pub batch_brought : DeskState → Data → LineReading Delivery
 batch_brought d line = and_then (environment_in d line) (λ environment.
     for_environment environment (batch_in (number_in environment d.board) line))
