@@ -1,4 +1,4 @@
--- Each version that a slot has had is a revision of a line of histories.
+-- Lemmas on slots of which each version so far is a revision of a line of histories.
 use Rattle.std.proofs.Common.{◌≡◌, ℕ, zero, suc, ◌≤◌, List, [], ◌∷◌, ◌++◌, length, take, Option, Some, None, Result, Ok, Err, OnOk, OnErr, IfSome, refl, sym, subst, unwrap_or}
 use Rattle.std.specs.Prelude.{option_map}
 use Rattle.unl_core.specs.declared.board.Board.{Board}

@@ -65,13 +65,13 @@ pub fn boards_represent_lines()
         → IfSome (board_of known k) (SlotRepresented line sees slot) }
 {}
 
-/// `line` is a list of histories of an environment, and `sees` says which projects are visible. Suppose that each
-/// version that was installed at a slot since the opening board resulted from the slot's version before it by one batch
-/// that applies and that can be sent from `line`. `SlotComesFromLine` says so, and also that `SlotRepresented` is true
-/// of the opening board. Clause `always`: then `SlotRepresented` is true of the board after each known install. Clause
-/// `boards`: so it is true of each board that the reader knows, if the reader never continued from a learned list, or
-/// only when it knew no board but the opening board. Clause `empty`: of a board whose slots have no version yet,
-/// `SlotRepresented` is true for any line.
+/// `line` is a line of histories of an environment (`IsLine`), and `sees` says which projects are visible. Suppose that
+/// each version that was installed at a slot since the opening board resulted from the slot's version before it by one
+/// batch that applies and that can be sent from `line`. `SlotComesFromLine` says so, and also that `SlotRepresented` is
+/// true of the opening board. Clause `always`: then `SlotRepresented` is true of the board after each known install.
+/// Clause `boards`: so it is true of each board that the reader knows, if the reader never continued from a learned
+/// list, or only when it knew no board but the opening board. Clause `empty`: of a board whose slots have no version
+/// yet, `SlotRepresented` is true for any line.
 pub fn sent_boards_represent_lines()
     ensures always { (line : List Era) (sees : Sees) (slot : ℕ) (known : Knowledge BoardAt Install) → IsLine line
         → IfSome known.opening (λ opening. SlotComesFromLine line sees slot opening known.installs)
