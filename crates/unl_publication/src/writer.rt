@@ -60,8 +60,8 @@ impl<T: Counted<I> + Drop, I: Drop, P: Rules<T, I>> Told<T, I, P> {
 impl<T: Counted<I> + Drop, I: Drop, P: Rules<T, I>> Writer<T, I, P> {
     ghost use Rattle.unl_publication.specs.Seen.{is_closed, reported_front, reported_list, written};
 
-    /// Creates a writer over two copies of the opening value, whose front is 0, with room for `readers` readers. The
-    /// writer knows the opening value.
+    /// Creates a writer over two copies of the opening value, whose front is 0, with room for `readers` readers (1 to
+    /// 2^32 - 1). The writer knows the opening value.
     ///
     /// # Errors
     ///
