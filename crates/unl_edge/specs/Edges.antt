@@ -46,7 +46,7 @@ pub record HandsLinks (served : ℕ) (before after : Scene) : Type 0 where
   pub left : after.door.state.links ≡ option_map (λ list. drop served list) before.door.state.links
   pub unread : after.input.left ≡ before.input.left
 
--- Unless the peer failed, it was asked for the book and for each slot at least once. Each turn made its exchanges in order. After the
+-- Unless the peer failed, it was asked for the book and for each slot at least once. The turns were made as `PollsUpstream` says. After the
 -- first turn, with the door listening at this port, `served` links were handed out, and each was served once, by one of the workers.
 abbrev pub IsServed : EdgeService → ℕ → ℕ → Scene → Scene → Type 0
 IsServed service port served before after = AsksPeer (length service.opening.places + 1) before after

@@ -65,7 +65,8 @@ pub record RunsUpstream (words : UpstreamArguments) (end : UpstreamEnd) (before 
   pub begins : Begins words before.draws start coming
   pub ends : UpstreamEnds start words.port end (record before { draws = coming }) after
 
--- how an upstream with these arguments ends; if memory ran out before lines were taken, nothing was sent and the door is unchanged
+-- how an upstream with these arguments ends; if memory ran out before lines were taken, nothing was sent and the door is unchanged, and
+-- nothing is said of the draw
 abbrev pub UpstreamRuns : UpstreamArguments → UpstreamEnd → Scene → Scene → Type 0
 UpstreamRuns words NoMemory before after = IsUntouched (facing_of before) (facing_of after)
 UpstreamRuns words KeeperFault before after = RunsUpstream words KeeperFault before after

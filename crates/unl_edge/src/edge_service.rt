@@ -33,9 +33,10 @@ use unl_edge_state::{EdgeReader, EdgeWriter, begin_orderly, readers_are_send, wr
 use unl_refresh::{MetricsQueue, MetricsReceiver, Poller};
 use unl_workers::{AcceptOutcome, PoolFault, PoolOutcome, WorkerSlot, run_pool};
 
-/// Serves the links of a listening door with this many workers, over a board that is kept up to date. The upstream is
-/// polled once before the first link is accepted, and then at a pace, concurrently with the workers. Returns the number
-/// of links that the door handed out, and whether the door was then closed or failed.
+/// Serves the links of a listening door with this many workers (1 to 16), over a board that the poller keeps up to
+/// date. The poller must have as many slots as the board. The upstream is polled once before the first link is
+/// accepted, and then at a pace, concurrently with the workers. Returns the number of links that the door handed out,
+/// and whether the door was then closed or failed.
 ///
 /// # Errors
 /// `Spawner` if a thread couldn't be started, and `Memory` if out of memory. On both errors the door handed out no

@@ -19,7 +19,7 @@ use unl_workers::LinkHandler;
 /// installs as the reader has learned of. When a reader learns a list of installs from a report of the writer, the new
 /// list replaces its old one, and boards that it knew before need not follow the new list. The reader of this desk has
 /// learned lists only while it knew no board but the opening board (the board before all installs). So all boards that
-/// it knows follow one list, and no install in that list gives a slot an older version.
+/// it knows follow one list. The publication is orderly, so no install in that list gives a slot an older version.
 #[derive(Drop)]
 pub(crate) struct FreshDesk {
     /// The reader of the published boards.
@@ -57,7 +57,8 @@ impl Desk for FreshDesk {
 }
 
 /// What one worker serves links with. It answers requests from the published boards. After each link it puts the
-/// metrics that clients reported into a queue, from which the poller takes them and sends them upstream.
+/// metrics that clients reported into a queue, unless 64 books wait there. The poller takes them from the queue and
+/// sends them upstream.
 #[derive(Drop)]
 pub(crate) struct EdgeLinkHandler<'a, W> {
     /// Answers the requests.

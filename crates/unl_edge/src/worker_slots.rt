@@ -15,7 +15,7 @@ use unl_workers::WorkerSlot;
 
 /// Returns a worker slot for each reader. Each reader first learns all installs that the writer has published.
 /// Each slot has its own source of times and random words, split off from `draws`, and its own sender of metrics to
-/// `receiver`. The only error is out of memory.
+/// `receiver`. The only error is `Memory`: out of memory, or a report of the writer has no list of installs.
 pub(crate) fn worker_slots_of<'a, R: Draws + Drop, W: Wait>(
     alloc: Global,
     rt: &'a W,
