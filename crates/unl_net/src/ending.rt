@@ -132,7 +132,7 @@ impl<S: Read + Write + OpenStream + AsRawFd + Drop> Reactor<S> {
 
     /// Ends the connections whose time is over, at most once a second. A connection's time is over if it has waited too
     /// long, or if no connection may wait any longer (`is_over`). If there is no memory to note all of them, the rest
-    /// end later.
+    /// end later. Also ends a shortage that is past (`end_shortage`).
     #[tactic(auto, using(crate::proofs::Accounting::same))]
     pub fn sweep(&mut self, now: Option<Instant>)
         ensures accounts { Accounts 0 (slab_len self.old.waiting + deque_len self.old.ready) self.old.ended
@@ -142,6 +142,7 @@ impl<S: Read + Write + OpenStream + AsRawFd + Drop> Reactor<S> {
             return;
         }
         self.swept = now;
+        self.end_shortage(now);
         let is_over = self.is_over(now);
         note_keys(&self.waiting, &mut self.keys, now, is_over);
         self.end_noted(now)

@@ -269,7 +269,7 @@ fn note_shortage<N: Net + Clock + Eprint + Wait + Copy + Drop>(
         (slab_len reactor.new.waiting + deque_len reactor.new.ready) reactor.new.ended }
     ensures counts { (accepting.new.bound ≡ accepting.old.bound) × (accepting.new.accepted ≡ accepting.old.accepted) }
 {
-    if !reactor.note_shortage() {
+    if !reactor.note_shortage(moment(&net)) {
         accepting.note_fault(&net, &fault);
     }
 }

@@ -10,7 +10,7 @@ ghost use Rattle.unl_net.specs.Phases.{phase_of};
 use crate::connection::{Connection, PIECE};
 use crate::cuts::{Cut, Cuts, EndReason, cut_of};
 use crate::ending::CLOSED_AT_ONCE;
-use crate::moment::moment;
+use crate::moment::{moment, seconds_between};
 use crate::phase::Phase;
 use crate::shared::SharedWithLinks;
 use mio::unix::SourceFd;
@@ -24,6 +24,9 @@ use std::net::OpenStream;
 use std::os::fd::{AsRawFd, RawFd};
 use std::sync::{Arc, Wait};
 use std::time::{Clock, Duration, Instant};
+
+/// How many seconds after the last shortage of descriptors or memory as many connections are allowed as at first.
+const SHORT_SECONDS: u64 = 300;
 
 /// How many events are taken at once at most.
 const MOST_EVENTS: usize = 256;
@@ -55,8 +58,12 @@ pub(crate) struct Reactor<S: Read + Write + OpenStream + AsRawFd + Drop> {
     /// The number of received bytes in the buffers of all connections that wait.
     pub(crate) received: u64,
     /// The maximum number of connections, including those of links. If links hold all connections, more are accepted
-    /// nevertheless. `note_shortage` changes it.
+    /// nevertheless. `note_shortage` lowers it, and `sweep` sets it to `limit` again.
     most: usize,
+    /// The maximum that the reactor was created with.
+    limit: usize,
+    /// When descriptors or memory were last short, if `most` is still lowered.
+    short_since: Option<Instant>,
     /// How many connections have ended here. It stops at 2^64 - 1.
     pub(crate) ended: u64,
     /// Whether the door closes when it hands out the last connection, since as many were accepted as its bound allows.
@@ -103,6 +110,8 @@ impl<S: Read + Write + OpenStream + AsRawFd + Drop> Reactor<S> {
             swept: None,
             received: 0,
             most,
+            limit: most,
+            short_since: None,
             ended: 0,
             closes: false,
             is_ending: false,
@@ -169,16 +178,30 @@ impl<S: Read + Write + OpenStream + AsRawFd + Drop> Reactor<S> {
             .saturating_add(Arc::strong_count(&self.shared).saturating_sub(1))
     }
 
-    /// Handles a lack of file descriptors, or of memory for one: closes up to 8 of the connections that wait, and from
-    /// now on allows 8 fewer than there were before, at least 1. Returns false if none waits that could be closed.
-    pub fn note_shortage(&mut self) -> bool
+    /// Handles a lack of file descriptors, or of memory for one: closes up to 8 of the connections that wait, and allows
+    /// 8 fewer than there were before, at least 1, until 5 minutes have passed without another shortage. Returns false
+    /// if none waits that could be closed.
+    pub fn note_shortage(&mut self, now: Option<Instant>) -> bool
         ensures accounts { Accounts 0 (slab_len self.old.waiting + deque_len self.old.ready) self.old.ended
             (slab_len self.new.waiting + deque_len self.new.ready) self.new.ended }
     {
         self.most = self.live().saturating_sub(CLOSED_AT_ONCE).max(1);
+        self.short_since = now;
         let closes = self.oldest().is_some();
         self.close_some();
         closes
+    }
+
+    /// Allows as many connections as at first again, once 5 minutes have passed since the last shortage. A shortage
+    /// whose time isn't known counts as past.
+    pub(crate) fn end_shortage(&mut self, now: Option<Instant>)
+        ensures same { self.new ≡ record self.old { most = self.new.most; short_since = self.new.short_since } }
+    {
+        if self.short_since.is_some() && seconds_between(self.short_since, now) < SHORT_SECONDS {
+            return;
+        }
+        self.short_since = None;
+        self.most = self.limit;
     }
 
     /// Takes in a connection that was just accepted.
