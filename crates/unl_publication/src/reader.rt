@@ -2,8 +2,9 @@
 //! of the value, so that a reader never waits.
 ghost use Rattle.std.specs.Prelude.{max, ◌≡◌, ◌≤◌, ◌<◌, true, IfOk, IfErr, IfSome, MatchResult, Some, None, is_some, option_map, fold};
 ghost use Rattle.std.specs.Prelude.{length};
+ghost use Rattle.crossbeam_utils.specs.Register.{Turns};
 ghost use Rattle.left_right.specs.Sides.{view};
-ghost use Rattle.unl_publication.specs.Rule.{KnowsAllowed, Rise, Enters};
+ghost use Rattle.unl_publication.specs.Rule.{KnowsAllowed, Enters};
 ghost use Rattle.unl_publication.specs.Meaning.{known, before_of, front_seen, value_at};
 ghost use Rattle.unl_publication.specs.Looking.{AreBothAllowed, IsBetweenLooks, IsLooking, SameOrigin, Shows, Takes};
 ghost use Rattle.unl_publication.specs.Looking.{Follows, LooksBelow, StaysOrTakes, continues_from, remembers};
@@ -144,7 +145,8 @@ fn enter_past<T: Counted<I> + Drop, I: Drop, P: Rules<T, I>, K: Past<T::State>>(
 ) -> Result<Reading<T, Knowledge<T::State, I>, P>, Seat<T, Knowledge<T::State, I>, P>>
     requires before { K.before ≡ before_of T.applied (option_map (λ s. view s.value.place) past.now) (view seat.place) }
     requires fronts { K.fronts ≡ (known (option_map (λ s. view s.value.place) past.now) (view seat.place)).fronts }
-    requires rises { Rise 0 K.fronts (length (view seat.place).installs) }
+    requires rule { Turns P.holds seat.place.id (view seat.place) (λ x. x)
+        (λ v x _ w. Enters T.applied T.front_of T.allows K.before K.fronts (T.state x) v w) }
     ensures { MatchResult result
         (λ r. Enters T.applied T.front_of T.allows (before_of T.applied (option_map (λ s. view s.value.place) past.now) (view seat.place))
         (known (option_map (λ s. view s.value.place) past.now) (view seat.place)).fronts

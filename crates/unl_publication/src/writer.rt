@@ -3,6 +3,7 @@
 ghost use Rattle.std.specs.Prelude.{◌≡◌, ◌^◌, ◌<◌, false, [], ◌∷◌, ℕ, length, drop, fold};
 ghost use Rattle.std.specs.Prelude.{IfOk, IfSome, IsErr, MatchResult, OnOk};
 ghost use Rattle.std.specs.Prelude.{true, Some, is_some};
+ghost use Rattle.crossbeam_utils.specs.Register.{Admits, Forks, TurnsAt};
 ghost use Rattle.left_right.specs.Sides.{view};
 ghost use Rattle.unl_publication.specs.Rule.{AreAllowed, KnowsAllowed, MayPublish, Opens, Publishes};
 ghost use Rattle.unl_publication.specs.Rule.{knows_opening, shared_knowledge, with_installs};
@@ -12,6 +13,7 @@ ghost use Rattle.unl_publication.specs.Meaning.{front_seen};
 use crate::knowledge::Knowledge;
 use crate::rule::{AtTable, Given, Learn, Open, Publish, Rules, Tell};
 use crate::value::Counted;
+use crossbeam_utils::rule::Outcome;
 use left_right::reader::Reader as Seat;
 use left_right::writer::Writer as Sides;
 use std::alloc::{AllocError, Global};
@@ -130,7 +132,7 @@ impl<T: Counted<I> + Drop, I: Drop, P: Rules<T, I>> Writer<T, I, P> {
     /// published then. If the install was already appended to the log of `left_right` when the call failed, every later
     /// call fails too.
     pub fn publish<W: Wait>(self, rt: &W, what: I) -> (Writer<T, I, P>, Result<u64, AllocError>)
-        requires { MayPublish T.applied T.allows (written self) what }
+        requires allowed { MayPublish T.applied T.allows (written self) what }
         ensures published { MatchResult result.1
             (λ front. (written result.0 ≡ with_installs (what ∷ []) (written self)) × (front ≡ front_seen (written result.0)))
             (λ _. written result.0 ≡ written self) }
@@ -183,6 +185,21 @@ pub(crate) fn fresh_seat<T: Counted<I> + Drop, I: Drop, P: Rules<T, I>>(
     ensures log { (sides.new.log ≡ sides.old.log) × (sides.new.behind ≡ sides.old.behind) }
     ensures seat { IfOk result (λ r. view r.place ≡ shared_knowledge (view sides.old.desk.place)) }
 {
+    seat_by::<T, I, P>(sides)
+}
+
+/// The body of `fresh_seat`. Its caller shows that a new reader, and what the writer tells, keep the protocol.
+fn seat_by<T: Counted<I> + Drop, I: Drop, P: Rules<T, I>>(
+    sides: &mut Sides<T, I, Knowledge<T::State, I>, P>,
+) -> Result<Seat<T, Knowledge<T::State, I>, P>, AllocError>
+    requires admits { Admits P.holds P.first }
+    requires forks { Forks P.holds sides.old.desk.place.id (view sides.old.desk.place) (view sides.old.desk.place)
+        (shared_knowledge (view sides.old.desk.place)) }
+    ensures same { view sides.new.desk.place ≡ view sides.old.desk.place }
+    ensures shown { sides.new.desk.shown ≡ sides.old.desk.shown }
+    ensures log { (sides.new.log ≡ sides.old.log) × (sides.new.behind ≡ sides.old.behind) }
+    ensures seat { IfOk result (λ r. view r.place ≡ shared_knowledge (view sides.old.desk.place)) }
+{
     let mut seat = sides.factory().reader()?;
     seat.learn::<Learn>(sides.tell::<Tell>());
     Ok(seat)
@@ -205,7 +222,7 @@ fn open_table<T: Counted<I> + Drop, I: Drop, P: Rules<T, I>, K: AtTable, W: Wait
         × Opens sides.desk.place.table_id.views_name (T.state sides.desk.shown.value) (view sides.desk.place) (view result.0.desk.place))
         (λ _. Unit {0}) }
 {
-    sides.publish_as::<Open<K>, W>(rt)
+    publish_by::<T, I, P, Open<K>, W>(rt, sides)
 }
 
 /// Publishes the installs that wait in the log of `left_right`. Contracts name them `K.given`.
@@ -229,5 +246,33 @@ fn publish_given<T: Counted<I> + Drop, I: Drop, P: Rules<T, I>, K: Given<I>, W: 
         (λ _. T.state result.0.desk.shown.value ≡ fold T.applied (T.state sides.desk.shown.value) K.given)
         (λ _. result.0.desk.shown.value ≡ sides.desk.shown.value) }
 {
-    sides.publish_as::<Publish<K>, W>(rt)
+    publish_by::<T, I, P, Publish<K>, W>(rt, sides)
+}
+
+/// Publishes what waits in the log of `left_right`. The caller shows that the step keeps the protocol.
+fn publish_by<
+    T: Counted<I> + Drop,
+    I: Drop,
+    P: Rules<T, I>,
+    M: Outcome<T, Knowledge<T::State, I>>,
+    W: Wait,
+>(
+    rt: &W,
+    sides: Sides<T, I, Knowledge<T::State, I>, P>,
+) -> (
+    Sides<T, I, Knowledge<T::State, I>, P>,
+    Result<(), AllocError>,
+)
+    requires rule { (next : T) → T.state next ≡ fold T.applied (T.state sides.desk.shown.value) (drop sides.behind sides.log.items)
+        → TurnsAt P.holds sides.desk.place.id (view sides.desk.place) sides.desk.shown.value next M.then }
+    ensures values { MatchResult result.1
+        (λ _. (T.state result.0.desk.shown.value ≡ fold T.applied (T.state sides.desk.shown.value) (drop sides.behind sides.log.items))
+        × (drop result.0.behind result.0.log.items ≡ []))
+        (λ _. (result.0.desk.shown.value ≡ sides.desk.shown.value)
+        × (drop result.0.behind result.0.log.items ≡ drop sides.behind sides.log.items)) }
+    ensures rule { MatchResult result.1
+        (λ _. M.then (view sides.desk.place) sides.desk.shown.value result.0.desk.shown.value (view result.0.desk.place))
+        (λ _. view result.0.desk.place ≡ view sides.desk.place) }
+{
+    sides.publish_as::<M, W>(rt)
 }

@@ -1,10 +1,18 @@
 use Rattle.std.proofs.Common.{arith, ap, ◌∙◌}
+use Rattle.std.specs.Prelude.{option_map}
+use Rattle.left_right.specs.Sides.{view}
+use Rattle.unl_publication.specs.Meaning.{known, before_of}
+use Rattle.unl_publication.proofs.Keeps.{enters}
 use Rattle.unl_publication.proofs.Meant.{follows, refuses, stayed, took}
 use Rattle.unl_publication.proofs.Sure.{IsBetweenLooks-from, IsBetweenLooks-rises, IsLooking-taken, Takes-from, Shows-entered}
 use Rattle.unl_publication.proofs.reader.Reader.enter.Goals as goal
 
-pub enter_past-requires-clause-rises : goal.enter_past-requires-clause-rises
-enter_past-requires-clause-rises g c = IsBetweenLooks-rises _ _ (IsBetweenLooks-from {S = g.row.T-State.Denot} {I = g.row.I.Denot} _ _ c.args.self.between_looks)
+pub enter_past-requires-clause-rule : goal.enter_past-requires-clause-rule
+enter_past-requires-clause-rule g c x views h at = let P = g.met.P.Rules in let s = c.args.self in let now = view s.seat.place in
+    let past = option_map (λ s. view s.value.place) s.past in let applied = g.T.Absorb.applied in
+    let r = enters applied g.T.Counted.front_of g.T.Counted.allows (before_of applied past now) (known past now).fronts s.seat.place.id now (g.T.Absorb.state x)
+    (IsBetweenLooks-rises past now (IsBetweenLooks-from past now s.between_looks)) views (P.kept x views h) at in
+    (r.0, P.keeps x _ r.1, r.2)
 
 pub invariant_of-guard : goal.invariant_of-guard
 invariant_of-guard g c = let applied = g.T.Absorb.applied in let front = g.T.Counted.front_of in let e = c.in-Ok.ensures in record {

@@ -20,7 +20,7 @@ publish_given-sides-requires-clause-allowed g c = let w = c.args.self in let d =
     let added : drop now.behind now.log.items ≡ drop w.sides.behind w.sides.log.items ++ c.args.what ∷ [] = when_ok _ _ _ (sym c.if-is_err.ensures.value) c.append.ensures.pending in
     let one : drop now.behind now.log.items ≡ c.args.what ∷ [] = added ∙ ap (λ l. l ++ c.args.what ∷ []) (w.clear c.if-refused.false) in
     let may = MayPublish-allows applied allows (view w.sides.desk.place) (state w.sides.desk.shown.value) c.args.what w.begun
-    (Shows-from applied front g.row.T-State.coded _ _ w.shows).value_is c.requires in
+    (Shows-from applied front g.row.T-State.coded _ _ w.shows).value_is c.requires.allowed in
     AreAllowed-one applied allows (state now.desk.shown.value) c.args.what _ one (subst (λ k. allows (state k.shown.value) c.args.what) (sym d) may)
 
 pub invariant_of-result-in-Ok : goal.invariant_of-result-in-Ok
