@@ -1,13 +1,13 @@
 -- Lemmas that turn facts about the links of worker slots into facts about the links of an edge's workers (`EachLinkServed`).
 use Rattle.std.proofs.Common.{◌≡◌, ◌∙◌, ◌<◌, ℕ, ◌+◌, List, [], ◌∷◌, ◌++◌, length, map, Option, Some, Result, Ok, Err, Bool, true, ap, refl, subst, sym}
-use Rattle.std.specs.Prelude.{All, IfOk, OnOk, flat_map}
+use Rattle.std.specs.Prelude.{All, IfOk, IfSome, OnOk, flat_map}
 use Rattle.std.specs.List.{AllZip}
 use Rattle.std.proofs.lemmas.List.{length-map, map-append}
 use Rattle.std.proofs.lemmas.List.Elements.{All-head, All-tail}
 use Rattle.unl_base.specs.Doors.{DoorState, listening_at}
 use Rattle.unl_core.specs.declared.board.Board.{Board}
 use Rattle.unl_core.specs.declared.board.Install.{Install}
-use Rattle.unl_delta.specs.Installing.{Installed}
+use Rattle.unl_delta.specs.Installing.{Installed, Publication}
 use Rattle.unl_edge.specs.EdgeLinks.{EachLinkServed, ServesEachLink, ServesShares, WorkDuringTurns}
 use Rattle.unl_edge.specs.EdgeServices.{EdgeService, EdgeWorker, WorkerServes, opened, service_at, edge_worker}
 use Rattle.unl_edge.specs.Polling.{refreshing}
@@ -17,8 +17,10 @@ use Rattle.unl_edge.specs.declared.link_handler.EdgeLinkHandler.{EdgeLinkHandler
 use Rattle.unl_edge.proofs.Answering.{Began, began, serves_after}
 use Rattle.unl_edge.proofs.Polling.{polls_same}
 use Rattle.unl_edge_state.specs.Editions.{BoardAt, orderly_opening}
-use Rattle.unl_edge_state.specs.Writing.{LeadsTo}
+use Rattle.unl_edge_state.specs.Writing.{LeadsTo, publication_of}
 use Rattle.unl_publication.specs.declared.knowledge.Knowledge.{Knowledge}
+use Rattle.unl_refresh.proofs.Delivering.{turn_kept}
+use Rattle.unl_refresh.specs.Delivery.{HasRevisions, PublishesRevision, SlotLines}
 use Rattle.unl_refresh.specs.Exchange.{PeerView}
 use Rattle.unl_refresh.specs.MetricsQueues.{no_intake}
 use Rattle.unl_refresh.specs.Turns.{Duty, KeepsDuty, MakesTurn, PollState, poll_state}
@@ -113,6 +115,12 @@ each_served {W} {R} {L} coming_of left sent faults door door_after known count b
 
 -- ---- an edge service
 
+-- if all publications represent lines, so do the installs that they are
+installs_represent : (lines : SlotLines) (installs : List Install) (installed : Installed) → installed.publications ≡ Some (map publication_of installs)
+    → HasRevisions lines installed → All (PublishesRevision lines) (map publication_of installs)
+installs_represent lines installs installed is has =
+    subst (λ (o : Option (List Publication)). IfSome o (All (PublishesRevision lines))) is has.published
+
 -- the first turn was made, and after it each link was served while later turns were made
 pub each_after_turn : (service : EdgeService) (now : Duty) (begun ended : PollState) (peer peer_after : PeerView) (door door_after : DoorState)
     (served : Result AcceptOutcome PoolFault)
@@ -139,6 +147,10 @@ each_after_turn service now begun ended peer peer_after door door_after (Ok acce
           later = polls_same service.duty now (refreshing begun no_intake) (refreshing ended each.intake) keeps each.turns;
           peer_ended = same;
         };
+        revisions = λ lines are sent has.
+            installs_represent lines installs begun.installed leads.publications
+            (turn_kept lines service.duty.known service.duty.upstream service.duty.slot_pollers
+            (poll_state service.opening service.duty.tags service.duty.metrics peer) begun are turn sent has);
         work = each.links.work;
       };
       each = each.links.each;

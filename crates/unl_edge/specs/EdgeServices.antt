@@ -14,13 +14,14 @@ use Rattle.unl_edge.specs.declared.link_handler.EdgeLinkHandler.{EdgeLinkHandler
 use Rattle.unl_edge_state.specs.Editions.{BoardAt, orderly_opening}
 use Rattle.unl_edge_state.specs.Histories.{SeesRevisions}
 use Rattle.unl_edge_state.specs.Reading.{AnswersAfter, StartsReader, SeesInOrder, seen_by, learned_front_of}
-use Rattle.unl_edge_state.specs.Writing.{LeadsTo}
+use Rattle.unl_edge_state.specs.Writing.{LeadsTo, publication_of}
 use Rattle.unl_edge_state.specs.declared.reader.EdgeReader.{EdgeReader}
 use Rattle.unl_server.specs.Handling.{Coming}
 use Rattle.unl_server.specs.Links.{LinkView}
+use Rattle.unl_refresh.specs.Delivery.{AreSlotLines, HasRevisions, PublishesRevision, SlotLines, TurnReceivesSent}
 use Rattle.unl_refresh.specs.Exchange.{PeerView}
 use Rattle.unl_refresh.specs.SlotParameters.{no_tags, slot_parameters}
-use Rattle.unl_refresh.specs.Turns.{Duty}
+use Rattle.unl_refresh.specs.Turns.{Duty, poll_state}
 use Rattle.unl_words.specs.Lists.{environment_of}
 use Rattle.unl_words.specs.declared.words.EdgeArguments.{EdgeArguments}
 use Rattle.unl_workers.specs.declared.worker.WorkerSlot.{WorkerSlot}
@@ -121,11 +122,16 @@ pub record WorkConcurrently (workers : ℕ) (edition : Option BoardAt) (installs
 -- The upstream was polled. In the first turn the book and each slot were asked for, and what was installed is what the replies say; the
 -- peer may have failed in an exchange. Each later turn was made too, or ended early because memory ran out; of a later turn nothing is
 -- said if the front was near 2^64 or there were fewer places than slots. `installs` leads from the opening board to what the first turn
--- installed. After that turn the workers began with `installs`, and each answer on each link was computed from the opening board after a
--- list of installs that starts with `installs`.
+-- installed: they are exactly what the replies of that turn published. If each batch in these replies was sent from the line of the slot that
+-- it was received for, each version in `installs` represents that line. After that turn the workers began with `installs`, and each answer on
+-- each link was computed from the opening board after a list of installs that starts with `installs`.
 pub record RunsService (service : EdgeService) (peer peer_after : PeerView) : Type 0 where
   pub first : Installed
   pub installs : List Install
   pub leads : LeadsTo service.edition installs first
   pub polls : PollsUpstream service.duty service.opening peer first peer_after
+  pub revisions : (lines : SlotLines) → AreSlotLines lines
+      → TurnReceivesSent lines service.duty.known service.duty.upstream service.duty.slot_pollers
+      (poll_state service.opening service.duty.tags service.duty.metrics peer) polls.begun polls.turn
+      → HasRevisions lines service.opening → All (PublishesRevision lines) (map publication_of installs)
   pub work : WorkConcurrently service.workers service.edition installs

@@ -20,26 +20,28 @@ use Rattle.unl_refresh.specs.declared.outcome.RefreshFault.{RefreshFault}
 use Rattle.unl_refresh.specs.Exchange.{IsParsedFrom}
 use Rattle.unl_refresh.specs.Refresh.{Brings, Refreshed, Refreshes, after_body, after_reading, after_verdict, batch_in, number_held}
 
--- `P` holds of what is installed before, and after each batch that the bytes to come may bring.
-pub record Leaves (P : Installed → Type 0) (slot : ℕ) (before : Installed) (delta : Bool) (coming : Option (List ℕ)) : Type 0 where
+-- `P` holds of what is installed before, and after each batch that a reply of which `Given` holds may bring.
+pub record Leaves (P : Installed → Type 0) (slot : ℕ) (before : Installed) (delta : Bool) (Given : Got → Type 0) : Type 0 where
   pub stays : P before
-  pub takes : (got : Got) (batch : Batch) → IsParsedFrom coming (Ok got) → got.status ≡ 200
+  pub takes : (got : Got) (batch : Batch) → Given got → got.status ≡ 200
       → batch_in delta (number_held (place_of before slot)) got.body ≡ Ok batch
       → P (after_verdict slot batch got.tag before (verdict_of (place_of before slot) batch)).installed
 
 same_number : (n m : ℕ) → (n == m) ≡ true → n ≡ m
 same_number n m is = grind (arith, nat_tests)
 
-batch_leaves : (P : Installed → Type 0) (slot : ℕ) (before : Installed) (delta : Bool) (coming : Option (List ℕ)) (got : Got) (read : Result Batch Bad)
-    → Leaves P slot before delta coming → IsParsedFrom coming (Ok got) → got.status ≡ 200 → batch_in delta (number_held (place_of before slot)) got.body ≡ read
+batch_leaves : (P : Installed → Type 0) (slot : ℕ) (before : Installed) (delta : Bool) (Given : Got → Type 0) (got : Got) (read : Result Batch Bad)
+    → Leaves P slot before delta Given → Given got → got.status ≡ 200 → batch_in delta (number_held (place_of before slot)) got.body ≡ read
     → P (after_body slot got.tag before read).installed
-batch_leaves P slot before delta coming got (Ok batch) leaves is status reads = leaves.takes got batch is status reads
-batch_leaves P slot before delta coming got (Err bad) leaves is status reads = leaves.stays
+batch_leaves P slot before delta Given got (Ok batch) leaves is status reads = leaves.takes got batch is status reads
+batch_leaves P slot before delta Given got (Err bad) leaves is status reads = leaves.stays
 
-reading_leaves : (P : Installed → Type 0) (slot : ℕ) (before : Installed) (delta : Bool) (tag coming : Option (List ℕ)) (reading : Result Got BadReply)
-    → Leaves P slot before delta coming → IsParsedFrom coming reading → P (after_reading slot delta tag before reading).installed
-reading_leaves P slot before delta tag coming (Err bad) leaves is = leaves.stays
-reading_leaves P slot before delta tag coming (Ok got) leaves is = by_status (got.status == 304) (got.status == 200) refl
+-- If `P` holds before, and after each batch that a given reply may bring, then it holds after a given reply.
+pub reading_leaves : (P : Installed → Type 0) (slot : ℕ) (before : Installed) (delta : Bool) (tag : Option (List ℕ)) (Given : Got → Type 0)
+    (reading : Result Got BadReply) → Leaves P slot before delta Given → ((got : Got) → reading ≡ Ok got → Given got)
+    → P (after_reading slot delta tag before reading).installed
+reading_leaves P slot before delta tag Given (Err bad) leaves is = leaves.stays
+reading_leaves P slot before delta tag Given (Ok got) leaves is = by_status (got.status == 304) (got.status == 200) refl
   where
     taken_so : Refreshed
     taken_so = after_body slot got.tag before (batch_in delta (number_held (place_of before slot)) got.body)
@@ -48,17 +50,18 @@ reading_leaves P slot before delta tag coming (Ok got) leaves is = by_status (go
         → P (cond unchanged (record { outcome = Unchanged; installed = before; tag = tag })
         (cond (not found) (record { outcome = Refused got.status; installed = before; tag = tag }) taken_so)).installed
     by_status true found is_found = leaves.stays
-    by_status false true is_found = batch_leaves P slot before delta coming got _ leaves is (same_number got.status 200 is_found) refl
+    by_status false true is_found = batch_leaves P slot before delta Given got _ leaves (is got refl) (same_number got.status 200 is_found) refl
     by_status false false is_found = leaves.stays
 
 -- If `P` holds before, and after each batch that the bytes to come may bring, then it holds after a refresh.
 pub refreshed_leaves : (P : Installed → Type 0) (result : Result Outcome RefreshFault) (slot : ℕ) (ask : Ask) (before after : Installed)
     (tag coming : Option (List ℕ))
     → IfOk result (λ outcome. Refreshes slot ask before coming (record { outcome = outcome; installed = after; tag = tag }))
-    → OnErr result (after ≡ before) → Leaves P slot before ask.delta coming → P after
+    → OnErr result (after ≡ before) → Leaves P slot before ask.delta (λ got. IsParsedFrom coming (Ok got)) → P after
 refreshed_leaves P (Ok outcome) slot ask before after tag coming takes fault leaves =
     subst (λ (r : Refreshed). P r.installed) (sym takes.gives)
-    (reading_leaves P slot before ask.delta ask.tag coming takes.reading leaves takes.is_read)
+    (reading_leaves P slot before ask.delta ask.tag (λ got. IsParsedFrom coming (Ok got)) takes.reading leaves
+    (λ got is. subst (IsParsedFrom coming) is takes.is_read))
 refreshed_leaves P (Err e) slot ask before after tag coming takes fault leaves = subst P (sym fault) leaves.stays
 
 -- The place represents the line, and its revision (epoch and number) is not older than before.

@@ -9,3 +9,4 @@ mod Weights
 mod Conserving
 mod Merging
 mod Sent
+pub mod Delivering

@@ -11,3 +11,4 @@ pub mod Conservation
 pub mod MetricsQueues
 pub mod Crossing
 pub mod Turns
+pub mod Delivery

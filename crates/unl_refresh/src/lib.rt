@@ -12,6 +12,7 @@ mod batches;
 mod crossing;
 mod exchange;
 mod handover;
+pub mod laws;
 mod metrics;
 mod metrics_queue;
 mod metrics_receiver;
