@@ -122,9 +122,9 @@ pub record WorkConcurrently (workers : ℕ) (edition : Option BoardAt) (installs
 -- The upstream was polled. In the first turn the book and each slot were asked for, and what was installed is what the replies say; the
 -- peer may have failed in an exchange. Each later turn was made too, or ended early because memory ran out; of a later turn nothing is
 -- said if the front was near 2^64 or there were fewer places than slots. `installs` leads from the opening board to what the first turn
--- installed, and is exactly what that turn published. If each batch that it received was sent from the line of the slot that it was received
--- for, each version in `installs` represents that line. After that turn the workers began with `installs`, and each answer on each link was
--- computed from the opening board after a list of installs that starts with `installs`.
+-- installed, and is exactly what that turn published. If each batch that it received was sent from the line of the slot that it was
+-- received for, each version in `installs` represents that line. After that turn the workers began with `installs`, and each answer on
+-- each link was computed from the opening board after a list of installs that starts with `installs`.
 pub record RunsService (service : EdgeService) (peer peer_after : PeerView) : Type 0 where
   pub first : Installed
   pub installs : List Install
