@@ -1,4 +1,4 @@
-//! Serves one connection from its first request to its end.
+//! Serves one link from its first request to its end.
 ghost use Rattle.std.specs.Prelude.{◌≡◌, [], length};
 ghost use Rattle.unl_core.specs.Desk.{Keeps};
 ghost use Rattle.unl_server.specs.Conversation.{Converses};
@@ -14,11 +14,11 @@ use unl_http_api::End;
 use unl_metrics::MetricsBook;
 use unl_server::serve_requests;
 
-/// Serves a connection until it ends. The desk answers each request from the board (the environments and tokens) that
+/// Serves a link until it ends. The desk answers each request from the board (the environments and tokens) that
 /// is published at that moment, and the reply of the answer is sent. The front (the number of installs that led to the
 /// board of the answer) and the draw (a time and a random word) are noted in `served`, which must be empty at the
 /// start. If a request reports metrics, they are added to `book`. If the book has no room for them, the reply is a 503
-/// and the book is unchanged. Returns why the connection ended.
+/// and the book is unchanged. Returns why the link ended.
 pub fn serve_connection<D: Desk, L: Link, R: Draws>(
     alloc: Global,
     desk: &mut D,

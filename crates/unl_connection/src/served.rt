@@ -1,5 +1,5 @@
-//! A list with one note for each request that was answered on a connection. Contracts use the notes to state which
-//! data each request was answered from.
+//! A list with one note for each request that was answered on a link. Contracts use the notes to state which data each
+//! request was answered from.
 ghost use Rattle.std.specs.Prelude.{◌≡◌, ◌<◌, ◌++◌, ◌∷◌, [], length, IfOk, option_copied, slice_get};
 
 use std::alloc::Global;
@@ -18,7 +18,7 @@ pub struct ServedOne {
     pub draw: Draw,
 }
 
-/// The requests answered on a connection, one note for each.
+/// The requests answered on a link, one note for each.
 #[derive(Debug, Drop)]
 pub struct Served {
     notes: Vec<ServedOne>,
@@ -32,12 +32,12 @@ impl Model for Served {
 
     ghost view = { λ served. served.notes.items };
 
-    // There is room for the notes of `MOST_REQUESTS` (1,000) requests, the limit of one connection.
+    // There is room for the notes of `MOST_REQUESTS` (1,000) requests, the limit of one link.
     ghost invariant = { λ served. 1000 ≤ vec_capacity served.notes };
 }
 
 impl Served {
-    /// Creates an empty list with room for the notes of one connection.
+    /// Creates an empty list with room for the notes of one link.
     ///
     /// # Errors
     /// `Memory`: out of memory.

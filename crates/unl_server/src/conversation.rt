@@ -1,4 +1,4 @@
-//! Serves the requests of one connection.
+//! Serves the requests of one link.
 ghost use Rattle.unl_server.specs.Handling.{HandlesRequest, RunsOutOfMemory, handler_state};
 ghost use Rattle.unl_server.specs.Conversation.{Converses};
 ghost use Rattle.unl_server.specs.Links.{link_view};
@@ -10,9 +10,10 @@ use std::alloc::Global;
 use unl_base::{Draws, Link};
 use unl_http_api::{End, Reader};
 
-/// Serves the requests of a connection until it ends, which is after [`MOST_REQUESTS`] requests at the latest. Each
-/// request gets a draw of its own (a time and a random word). Returns how many requests were answered, and why the
-/// connection ended. A request counts as answered when its reply is computed, even if the reply can't be sent.
+/// Serves the requests of a link until the link ends, which is after [`MOST_REQUESTS`] requests at the latest. Each
+/// request gets a draw of its own (a time and a random word). Returns how many requests were answered, and why the link
+/// ended. A request counts as answered when its reply is computed, even if the reply can't be sent. A door may hand out
+/// one connection as several links, one after another, and each of them is counted anew.
 pub fn serve_requests<A: RequestHandler, L: Link, R: Draws>(
     alloc: Global,
     state: &mut A::State,
@@ -28,7 +29,7 @@ pub fn serve_requests<A: RequestHandler, L: Link, R: Draws>(
     ensures keeps { A.keeps state.old state.new }
 {
     let mut reader = Reader::new(alloc);
-    // One buffer for the whole connection: filling a new one costs more than most requests do.
+    // One buffer for all requests of the link: filling a new one for each would cost more than most requests do.
     let mut room = [0; PIECE];
     let mut count = 0;
     for turn in 0..MOST_REQUESTS {

@@ -1,6 +1,7 @@
-//! The server. [`serve_requests`] reads the requests of one connection from a link (a source and a sink of bytes),
-//! passes each to the handler, and sends the replies in order. [`serve_door`] serves the links of a door (a listening
-//! port), one after another.
+//! The server. [`serve_requests`] reads the requests of a link (a source and a sink of bytes), passes each to the
+//! handler, and sends the replies in order. [`serve_door`] serves the links of a door (a listening port), one after
+//! another. In this crate a connection is what one link gives and takes: what a client keeps open may be several links,
+//! one after another.
 #![tactic(auto)]
 
 mod conversation;

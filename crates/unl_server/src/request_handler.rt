@@ -10,18 +10,18 @@ use unl_base::Draw;
 use unl_documents::Memory;
 use unl_http_api::{Reply, Request};
 
-/// The maximum number of requests that are answered on one connection. The last of their replies closes the connection.
-/// The number is chosen by this project.
+/// The maximum number of requests that are answered on one link. The last of their replies closes the connection. The
+/// number is chosen by this project.
 pub const MOST_REQUESTS: usize = 1000;
 
-/// Handles the requests of a connection: computes the reply to each request, and records in a state what the request
+/// Handles the requests of a link: computes the reply to each request, and records in a state what the request
 /// changes (such as metrics).
 pub trait RequestHandler {
     /// The state of the handler, with everything that it records and counts. Each request may change it.
     type State;
 
-    /// The precondition of `answer`, on the number of requests answered before on the connection, and on the state. It
-    /// also holds after `answer`, with the new number and state.
+    /// The precondition of `answer`, on the number of requests answered before on the link, and on the state. It also
+    /// holds after `answer`, with the new number and state.
     ghost fits: { ℕ → Self.State → Type 0 };
 
     /// A relation that holds between the states before and after any number of calls, such as that the state still
@@ -36,7 +36,7 @@ pub trait RequestHandler {
     ghost out_of_memory: { Self.State → Request → Draw → Self.State → Type 0 };
 
     /// Computes the reply to a request, with the time and the random word of `draw`. `count` requests were answered on
-    /// its connection before.
+    /// its link before.
     ///
     /// # Errors
     /// `Memory`: out of memory. The request then counts as not answered.
