@@ -51,8 +51,8 @@ refused_end (Err say.WriteFault) = WriteFault
 refused_end (Err say.Memory) = OutOfMemory
 
 -- The input was read, and the report of its tests, or the cause of its refusal, was sent in full. `end` says which: all tests passed, a
--- test failed, or the input was refused. `left` and `left_after` are the bytes that the input still had before and after the check, `old`
--- and `new` the bytes that the output was sent before and after (`None` if not observable).
+-- test failed, or the input was refused. `left` and `left_after` are the bytes that the input still had before and after the check, and
+-- `old` and `new` are the bytes sent to the output before and after it (each is `None` if not observable).
 pub record PrintsReport (draw : Draw) (end : CheckEnd) (left left_after old new : Option (List ℕ)) : Type 0 where
   pub outcome : InputOutcome Report
   pub says : Says (report_reading draw) text_of outcome left left_after old new
