@@ -22,8 +22,8 @@ pub record DoorEnd : Type 0 where
   pub state : DoorState
   pub faults : ℕ
 
--- the peer, the server that is polled: whether it is connected, the bytes still to be read, the bytes sent on this connection and on each
--- earlier one, the bytes that each later connection gives to its reader, and the count of its faults
+-- the peer, the connection to the server that is polled: whether it is open, the bytes still to be read, the bytes sent on it and on each
+-- earlier connection, the bytes that each later connection gives to its reader, and the count of its faults
 pub record PeerEnd : Type 0 where
   pub state : PeerState
   pub faults : ℕ

@@ -47,8 +47,9 @@ impl<'u, 'e, 'p, 'r, 'a, 'w, W: Wait, P: Peer> PeriodicTask
         × (after.receiver.ghost_name ≡ turn.receiver.ghost_name)
         × KeepsReceiver turn.receiver.now after.receiver.now };
 
-    /// Takes the metrics of the workers first, so that this turn can send them to the upstream. If memory runs out, the
-    /// turn ends early. That is not reported, and later turns are made as usual.
+    /// Takes the metrics of the workers first, so that this turn can send them to the upstream. A book that memory runs
+    /// out for is kept for a later turn. If memory runs out in an exchange, the turn ends early. That is not reported,
+    /// and later turns are made as usual.
     fn turn(&mut self, alloc: Global) {
         self.poller.take_metrics(alloc, self.rt, self.receiver);
         let _ = self.poller.turn(alloc, self.writer, self.peer);

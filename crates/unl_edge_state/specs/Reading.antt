@@ -77,7 +77,7 @@ pub record StartsReader (edition : Option BoardAt) (installs : List Install) (re
   pub seen_none : (seen_by reader).installs ≡ []
 
 -- The relation `Continued` from an earlier state of the reader, in which `past_of` was `past` and `continuation_of` was `now`, to the
--- present state: the present list of installs starts with the earlier list. Looks preserve this relation.
+-- present state. Among other things, the present list of installs starts with the earlier list. Looks preserve this relation.
 abbrev pub ContinuesFrom : Option (Knowledge BoardAt Install) → Knowledge BoardAt Install → EdgeReader → Type 0
 ContinuesFrom past now reader = Continued past now (past_of reader) (continuation_of reader)
 

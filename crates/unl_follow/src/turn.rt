@@ -1,5 +1,5 @@
-//! One turn of the command `follow`: it sends a request to a server, applies the reply to the replica (the newest
-//! version that the server sent), and writes a line.
+//! One turn of the command `follow`: it sends a request to a server, applies the reply to the replica (a copy of the
+//! state of one environment, which such replies keep up to date), and writes a line.
 ghost use Rattle.std.specs.Prelude.{◌≡◌, ℕ, ◌<◌, ◌≤◌, ◌+◌, ◌-◌, ◌^◌, List, Option, Err, IfOk, IsTrue, OnOk, string_bytes};
 ghost use Rattle.unl_base.specs.Faults.{Rose};
 ghost use Rattle.unl_base.specs.Streams.{Sends, SendsPrefix};

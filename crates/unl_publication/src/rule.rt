@@ -134,8 +134,8 @@ impl<T: Counted<I>, I: Drop, K: Past<T::State>> Outcome<T, Knowledge<T::State, I
     ghost then = { λ v x _ w. Enters T.applied T.front_of T.allows K.before K.fronts (T.state x) v w };
 }
 
-/// The writer shares its knowledge with a new reader: the table, the opening value and the list. The writer keeps what
-/// it knows.
+/// The writer shares its knowledge with a new `left_right` reader: that of a new reader, or that of a report which a
+/// reader will learn. It shares the table, the opening value and the list, and keeps what it knows.
 pub(crate) struct Tell;
 
 impl<S, I> Split<Knowledge<S, I>> for Tell {
@@ -146,7 +146,7 @@ impl<S, I> Split<Knowledge<S, I>> for Tell {
     ghost right = { shared_knowledge };
 }
 
-/// A new reader receives what the writer shared. It then knows that and nothing else.
+/// A new `left_right` reader receives what the writer shared. It then knows that and nothing else.
 pub(crate) struct Learn;
 
 impl<S, I> Join<Knowledge<S, I>> for Learn {
