@@ -4,10 +4,10 @@ ghost use Rattle.unl_refresh.specs.Delivery.{AreSlotLines, HasRevisions, SlotLin
 ghost use Rattle.unl_refresh.specs.SlotParameters.{SlotParameters};
 ghost use Rattle.unl_refresh.specs.Turns.{MakesTurn, PollState, StopsInTurn};
 
-/// A line has the history of changes of an environment in each of several rising epochs. If each batch that was
-/// received in a turn was sent from the line of the slot that it was received for, then each version that was published
-/// in the turn represents the line of its slot, and so does each slot's version afterwards, if the versions before did.
-/// So it is also for a turn that ended early because memory ran out.
+/// A line has the history of changes of an environment in each of several rising epochs. Suppose that before a turn each
+/// slot's version and each published version represents the line of its slot, and that each batch received in the turn
+/// was sent from the line of the slot that it was received for. Then the same is true after the turn, also of the
+/// versions that were published in it. This also holds for a turn that ended early because memory ran out.
 pub fn turns_publish_revisions()
     ensures made { (lines : SlotLines) (texts : List (List ℕ)) (host : List ℕ) (parameters : List SlotParameters)
         (before after : PollState) (turn : MakesTurn texts host parameters before after) → AreSlotLines lines

@@ -1,5 +1,5 @@
--- An upstream without a keeper on a connection: each request is answered, in order, and the command of a request is applied if it gives
--- one.
+-- An upstream without a keeper on a connection: each request is answered, in order, and if a request gives a command, the command is
+-- applied.
 use Rattle.std.specs.Prelude.{◌≡◌, ℕ, List, [], ◌∷◌, ◌++◌, length, option_to_list}
 use Rattle.unl_base.specs.declared.draws.Draw.{Draw}
 use Rattle.unl_server.specs.Handling.{HandlerState, HandlesRequest, Coming, RunsOutOfMemory, handler_state}
@@ -44,8 +44,8 @@ abbrev pub commands_given : List ℕ → List Request → List Command
 commands_given secret [] = []
 commands_given secret (q ∷ qs) = option_to_list (command_given secret q) ++ commands_given secret qs
 
--- `count` requests were answered, and nothing but their commands changed the upstream. If its versions represented the histories of some
--- commands, they now represent those of the same commands followed by the accepted commands of the requests.
+-- `count` requests were answered, and nothing but their commands changed the upstream. If the versions of `up` represent the histories of
+-- some commands, those of `up_after` represent the histories of the same commands followed by the accepted commands of the requests.
 pub record ObeysRequests (up : UpstreamState) (count : ℕ) (up_after : UpstreamState) : Type 0 where
   pub requests : List Request
   pub counted : length requests ≡ count
