@@ -74,8 +74,7 @@ impl<'a, M: Job> ScopedWork for Lent<'a, M> {
     }
 }
 
-/// Does nothing at run time. To the prover, a call ends the borrow: the borrowed variable then has the value that `x`
-/// has.
+/// Does nothing. A call ends the borrow of the variable that `x` refers to, with the value that `x` has.
 fn take_back<T>(x: &mut T)
     ensures { x.new ≡ x.old }
 {}

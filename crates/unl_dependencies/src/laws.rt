@@ -12,8 +12,8 @@ pub fn each_is_found()
     ensures { EachIsFound }
 {}
 
-/// The evaluation of a feature without dependencies depends on nothing in the state but the feature itself and the
-/// segments. Only such a feature can satisfy a dependency as its parent.
+/// Of the state, the evaluation of a feature without dependencies depends only on the feature itself and the segments,
+/// not on the other features. Only such a feature can satisfy a dependency as its parent.
 pub fn parent_evaluates_alone()
     ensures { ParentEvaluatesAlone }
 {}

@@ -1,5 +1,5 @@
--- The turns of an edge's poller, which polls the upstream once in each turn: the first, and those that follow while the edge's workers
--- serve links.
+-- The turns of an edge's poller, which makes one round of requests to the upstream in each turn: the first, and those that follow while
+-- the edge's workers serve links.
 use Rattle.std.specs.Prelude.{◌≡◌, ◌⊎◌, ◌<◌, ◌≤◌, ◌+◌, ◌-◌, ◌^◌, ℕ, length}
 use Rattle.unl_delta.specs.Installing.{Installed}
 use Rattle.unl_metrics.specs.Book.{Book}

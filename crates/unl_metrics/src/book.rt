@@ -90,7 +90,7 @@ impl MetricsBook {
         Ok(())
     }
 
-    /// Moves all counts of another book into this one. The other book is then empty. Sums saturate at 2^64 - 1.
+    /// Moves all counts of another book into this one, which leaves the other book empty. Sums saturate at 2^64 - 1.
     ///
     /// # Errors
     /// As for [`MetricsBook::add`]. On an error both books are unchanged.

@@ -34,8 +34,8 @@ coming buffer remaining = prepend_known (unread buffer) remaining
 abbrev pub outgoing : Option (List ℕ) → SendBuffer → Option (List ℕ)
 outgoing contents buffer = append_known contents (unsent buffer)
 
--- The effect of a read into the buffer `room`. If it returns `n`, the bytes to come began with the first `n` bytes of `room`, and these
--- were removed. If it fails, no bytes were removed. `old` and `new` are the bytes to come before and after the read.
+-- The effect of a read into the buffer `room`. If it returns `n`, the first `n` bytes of `room` were removed from the start of the bytes
+-- to come. If it fails, no bytes were removed. `old` and `new` are the bytes to come before and after the read.
 abbrev pub ConsumesReturned : {E : Type 0} → Option (List ℕ) → Option (List ℕ) → Result ℕ E → List ℕ → Type 0
 ConsumesReturned old new r room = MatchResult r (λ n. Consumes old new (take n room)) (λ _. Keeps old new)
 

@@ -40,7 +40,7 @@ pub(crate) struct Facts {
 pub(crate) fn phase_of(known: Facts) -> Phase
     ensures exact { result ≡ phase_of known }
 
-    // A connection is in the phase `Over` only if its client has shut down its side and nothing is left to be sent.
+    // No client is cut off: a connection is over only if its client has shut down its side and no reply is on its way.
     ensures over { result ≡ Over → (known.ended ≡ true) × (known.owes ≡ false) }
 
     // A whole request is served once the earlier replies are sent, whatever the client does after it, unless the

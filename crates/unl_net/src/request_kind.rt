@@ -74,7 +74,7 @@ pub(crate) struct RequestKind {
 }
 
 impl RequestKind {
-    /// The kind of the request that begins with these bytes. A header field that isn't among them counts as absent.
+    /// The kind of a request with these first bytes. Only header fields among them are considered.
     pub fn of(request: &[u8]) -> Self
         ensures { take result.len result.text ≡ logged_text request.now }
     {

@@ -10,8 +10,7 @@ use std::time::{Clock, Duration};
 use unl_base::Pace;
 
 /// A pace that sleeps before each turn. The first sleep has a given length, and each further one is twice as long as
-/// the one before, but none is longer than the interval. With an interval the turns never end; without one there is no
-/// turn.
+/// the one before, but none is longer than the interval. The turns never end. Without an interval there is no turn.
 #[derive(Drop)]
 pub struct StartPace<C: Clock + Drop> {
     clock: C,

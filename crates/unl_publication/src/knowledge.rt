@@ -13,9 +13,10 @@ pub struct Knowledge<S, I> {
     /// The known installs, in order. For a writer, all that it published. For a reader, the list that it saw last or
     /// learned since.
     pub installs: LinkedList<I>,
-    /// The values after 0, 1, 2, .. installs, as the reader knew them before it continued from a learned list. They are
-    /// set by the first look after that, and later looks keep them; until then empty. For these numbers of installs
-    /// they replace the values computed from `installs`.
+    /// The values after 0, 1, 2, .. installs that the reader knew before it last continued from a learned list. Empty
+    /// from the moment that it learns the list until its next look, which sets them; later looks keep them. Where this
+    /// list has an item, that item is used instead of the value computed from `opening` and `installs`. Empty if the
+    /// reader never learned a list.
     pub before: LinkedList<Option<S>>,
     /// The number of installs that a reader saw at each of its looks, oldest first.
     pub fronts: LinkedList<u64>,

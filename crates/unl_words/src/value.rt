@@ -64,7 +64,7 @@ pub(crate) fn placed(
     Ok(context)
 }
 
-/// Reads the name of a feature: a text of 1 to 255 bytes.
+/// Reads the name of a feature.
 pub(crate) fn name(alloc: Global, given: Option<&str>) -> Result<Text, WordsRefusal>
     ensures gives { Gives Memory result (required name_of (option_copied given.entry)) }
     ensures valid { IfOk result (λ text. is_name text ≡ true) }
@@ -99,7 +99,7 @@ pub(crate) fn secret(alloc: Global, given: Option<&str>) -> Result<Text, WordsRe
 }
 
 /// Reads an address `HOST:PORT`, split at its last colon. The host is a nonempty text without carriage return, line
-/// feed or NUL. The port is a number from 1 to 65535.
+/// feed or NUL.
 pub(crate) fn address(alloc: Global, given: Option<&str>) -> Result<Text, WordsRefusal>
     ensures gives { Gives Memory result (required address_of (option_copied given.entry)) }
     ensures valid { IfOk result (λ text. is_address text ≡ true) }
