@@ -1,9 +1,8 @@
 -- If each batch that was received in a turn was sent from the line of the slot that it was received for, the published versions represent
 -- these lines.
-use Rattle.std.proofs.Common.{◌≡◌, ◌+◌, ◌⊎◌, ◌∙◌, ℕ, zero, suc, Bool, false, true, All, List, [], ◌∷◌, ◌++◌, Option, Some, None, Result, Ok, Err, IfSome, ap, get_or, inl, inr, refl, subst, sym}
+use Rattle.std.proofs.Common.{◌≡◌, ◌+◌, ◌⊎◌, ◌∙◌, ℕ, zero, suc, Bool, false, true, All, List, [], ◌∷◌, Option, Some, None, Result, Ok, Err, IfSome, ap, get_or, inl, inr, refl, subst, sym}
 use Rattle.std.proofs.Math.ListN.{set}
 use Rattle.std.specs.Prelude.{slice_set}
-use Rattle.std.proofs.lemmas.List.{get_or-set_same}
 use Rattle.std.proofs.lemmas.List.Elements.{All-push}
 use Rattle.std.proofs.lemmas.Option.{unwrap_or-slice_get}
 use Rattle.serde_json.specs.Data.{Data}
@@ -16,8 +15,6 @@ use Rattle.unl_delta.specs.Batch.{empty_place, next_version, verdict_of}
 use Rattle.unl_delta.specs.History.{IsSent, PlaceRepresents, RepresentsLine}
 use Rattle.unl_delta.specs.Installing.{Installed, Publication, PublishedBook, PublishedVersion, one_more, place_of, with_place}
 use Rattle.unl_delta.proofs.Delivery.{next_follows}
-use Rattle.unl_http_api.specs.declared.got.BadReply.{BadReply}
-use Rattle.unl_http_api.specs.declared.got.Got.{Got}
 use Rattle.unl_metrics.specs.Bulk.{bulk}
 use Rattle.unl_refresh.specs.declared.outcome.Outcome.{Outcome}
 use Rattle.unl_refresh.specs.declared.outcome.Outcome.TheVariants.{Published, Unchanged, Repeat as repeat, Old as old, Gap as gap, Held as held, Refused, BadAnswer}

@@ -1,6 +1,6 @@
 -- What a turn delivers. A line has the history of changes of an environment in each of several rising epochs. If each batch that was
 -- received for a slot was sent from the slot's line, then each version that was published represents the line of its slot.
-use Rattle.std.specs.Prelude.{◌≡◌, ◌⊎◌, ◌+◌, ℕ, Bool, All, List, [], ◌∷◌, ⊤, Some, IfSome, Ok}
+use Rattle.std.specs.Prelude.{◌≡◌, ◌+◌, ℕ, Bool, All, List, [], ◌∷◌, ⊤, Some, IfSome, Ok}
 use mathlib.Core.Logic.{inl, inr}
 use Rattle.unl_delta.specs.declared.batch.Batch.{Batch}
 use Rattle.unl_delta.specs.declared.version.Place.{Place}
